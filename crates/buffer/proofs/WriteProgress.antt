@@ -35,22 +35,20 @@ pub use Rattle.buffer.proofs.BlockProgress.{
 
 pub measure_within : (n : ℕ) → n ≤ MAXFILE → measure n ≡ n
 unfolding measure
-measure_within n h = split (λ (r : ℕ). r ≡ n) (leb MAXFILE n) (λ e. omega (arith, leb-true MAXFILE n e)) λ _. refl
+measure_within n h = omega arith
 
 pub measure_beyond : (n : ℕ) → MAXFILE ≤ n → measure n ≡ MAXFILE
-unfolding measure choose◌then◌else◌
-measure_beyond n h = rw (le-leb MAXFILE n h) refl
+unfolding measure
+measure_beyond n h = omega arith
 
 pub measure_least : (n : ℕ) → measure n ≤ MAXFILE
 unfolding measure
-measure_least n = split (λ (r : ℕ). r ≤ MAXFILE) (leb MAXFILE n) (λ _. omega arith) λ e. omega (arith, leb-false MAXFILE n e)
+measure_least n = omega arith
 
 -- measuring in two parts
 measure_more : (n k : ℕ) → measure (measure n + k) ≡ measure (n + k)
 unfolding measure
-measure_more n k =
-    split (λ (r : ℕ). measure (r + k) ≡ measure (n + k)) (leb MAXFILE n)
-    (λ e. measure_beyond (MAXFILE + k) (omega arith) ∙ sym (measure_beyond (n + k) (omega (arith, leb-true MAXFILE n e)))) λ _. refl
+measure_more n k = omega arith
 
 -- ---- written, or only measured
 

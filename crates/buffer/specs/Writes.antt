@@ -2,12 +2,12 @@
 use Rattle.std.specs.Prelude.{ℕ, ◌+◌, ◌≤◌, ◌≡◌, Bool, true, false, length}
 use Rattle.model.specs.rules.Base.{Bytes, choose◌then◌else◌}
 use Rattle.model.specs.rules.Report.{MAXFILE}
-use Rattle.model.specs.rules.Api.{least}
+use Rattle.std.specs.Prelude.{min}
 pub use Rattle.buffer.specs.Written.{written}
 
 -- an offset as it is measured: at most the limit of a file, so that a text of any length has a measure (§7.1)
 unfoldable pub measure : ℕ → ℕ
-measure n = least MAXFILE n
+measure n = min MAXFILE n
 
 -- a text w may be measured from o on, and written there if `write` is set
 pub record Room (write : Bool) (o : ℕ) (w out : Bytes) : Type 0 where

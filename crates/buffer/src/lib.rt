@@ -12,6 +12,7 @@ ghost use Rattle.buffer.specs.Writes.{written, measure, Room, WrittenAt};
 use codes::MAX_FILE;
 
 pub mod blocks;
+pub mod short;
 
 // Copies src into out from `at` on, and returns the offset after it.
 pub fn copy(out: &mut [u8], at: usize, src: &[u8]) -> usize
@@ -32,10 +33,7 @@ pub fn measured(o: usize, n: usize) -> usize
     requires { o ≤ MAXFILE }
     ensures { result ≡ measure (o + n) }
 {
-    if MAX_FILE - o < n {
-        return MAX_FILE;
-    }
-    o + n
+    o + n.min(MAX_FILE - o)
 }
 
 // All of s at o, or only measured.

@@ -48,7 +48,7 @@ fn answer_of(d: Decoded) -> DecodeAnswer
     DecodeAnswer {
         report: codes::call_report(codes::ACCEPTED),
         length: size,
-        kind: codes::kind_number(kind) as usize,
+        kind: u8::from(kind) as usize,
     }
 }
 

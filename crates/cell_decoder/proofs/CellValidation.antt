@@ -13,8 +13,8 @@ use Rattle.model.specs.declared.CellStep.{CellStep}
 use Rattle.model.specs.declared.CellStep.TheVariants.{More, Stop, Refuse}
 use Rattle.model.specs.declared.Fault.{Fault}
 use Rattle.model.specs.declared.Fault.TheVariants.{Byte, CutShort}
-use Rattle.model.specs.declared.CellCheck.{CellCheck}
-use Rattle.model.specs.declared.CellCheck.TheVariants.{WholeCell, Unsound}
+use Rattle.model.specs.rules.Types.{CellCheck}
+use Rattle.std.specs.Prelude.{Ok, Err}
 use Rattle.model.specs.rules.Base.{choose◌then◌else◌, Bytes}
 use Rattle.model.specs.rules.Cell.{cell_step, is_whole}
 use Rattle.model.specs.rules.Report.{column_of}
@@ -24,12 +24,13 @@ use Rattle.cell_scanner.specs.declared.CellEnd.{CellEnd}
 use Rattle.cell_scanner.specs.declared.CellEnd.TheVariants.{Stopped, Refused, Open}
 use Rattle.cell_scanner.specs.Run.{cell_run}
 use Rattle.model.specs.rules.Api.{slice}
+use Rattle.model.specs.rules.Types.{cell_fault}
 
 -- the check result of an end, for a cell of n bytes
 abbrev pub validated_by : Dialect → (n : ℕ) → CellEnd → CellCheck
-validated_by d n (Stopped c i) = Unsound (Byte Syntax) i
-validated_by d n (Refused e i) = Unsound (Byte e) i
-validated_by d n (Open c) = choose is_whole d c then WholeCell else Unsound CutShort n
+validated_by d n (Stopped c i) = Err (cell_fault (Byte Syntax) i)
+validated_by d n (Refused e i) = Err (cell_fault (Byte e) i)
+validated_by d n (Open c) = choose is_whole d c then Ok tt else Err (cell_fault CutShort n)
 
 run_validated : (d : Dialect) (c : Cell) (i : ℕ) (bs : Bytes) (n : ℕ) → n ≡ i + length bs → validate_from d c i bs ≡ validated_by d n (cell_run d c i bs)
 unfolding validate_from cell_run
@@ -43,11 +44,11 @@ run_validated d c i (b ∷ bs) n e = go (cell_step d c b) refl (λ c'. run_valid
         let r : cell_run d c i (b ∷ bs) ≡ cell_run d c' (suc i) bs = rw (x, cell_run) in
         j ∙ next c' ∙ ap (validated_by d n) (sym r)
     go Stop x next =
-        let j : validate_from d c i (b ∷ bs) ≡ Unsound (Byte Syntax) i = rw (x, validate_from) in
+        let j : validate_from d c i (b ∷ bs) ≡ Err (cell_fault (Byte Syntax) i) = rw (x, validate_from) in
         let r : cell_run d c i (b ∷ bs) ≡ Stopped c i = rw (x, cell_run) in
         j ∙ ap (validated_by d n) (sym r)
     go (Refuse f) x next =
-        let j : validate_from d c i (b ∷ bs) ≡ Unsound (Byte f) i = rw (x, validate_from) in
+        let j : validate_from d c i (b ∷ bs) ≡ Err (cell_fault (Byte f) i) = rw (x, validate_from) in
         let r : cell_run d c i (b ∷ bs) ≡ Refused f i = rw (x, cell_run) in
         j ∙ ap (validated_by d n) (sym r)
 
@@ -60,10 +61,10 @@ validated d raw r e =
 
 -- a fault of a cell names no column
 abbrev column_in : CellCheck → ℕ
-column_in WholeCell = 0
-column_in (Unsound e i) = column_of e
+column_in (Ok _) = 0
+column_in (Err (cell_fault e i)) = column_of e
 
-pub no_column : (d : Dialect) (raw : Bytes) (e : Fault) (i : ℕ) → validate_cell d raw ≡ Unsound e i → column_of e ≡ 0
+pub no_column : (d : Dialect) (raw : Bytes) (e : Fault) (i : ℕ) → validate_cell d raw ≡ Err (cell_fault e i) → column_of e ≡ 0
 no_column d raw e i j =
     ap column_in (sym j ∙ validated d raw (cell_run d Fresh 0 (slice raw 0 (length raw))) refl) ∙ at_end (cell_run d Fresh 0 (slice raw 0 (length raw)))
   where

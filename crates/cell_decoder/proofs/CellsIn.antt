@@ -8,7 +8,7 @@ use lib.Seq.{length-take-le}
 use Rattle.model.specs.declared.Dialect.{Dialect}
 use Rattle.model.specs.declared.Kind.{Kind}
 use Rattle.model.specs.declared.Kind.TheVariants.{Text, Number, True, False, Null}
-use Rattle.model.specs.declared.CellCheck.TheVariants.{WholeCell}
+use Rattle.std.specs.Prelude.{Ok}
 use Rattle.model.specs.rules.Base.{Bytes, choose◌then◌else◌}
 use Rattle.model.specs.rules.Decode.{kind_number, kind_of, content_of, validate_cell}
 use Rattle.model.specs.rules.Text.{Value}
@@ -72,7 +72,7 @@ module _ (d : Dialect) (file : Bytes) where
       omega arith
 
   pub stretch_of : (v : Value) → v.kind ≡ kind_of d (slice file v.from v.upto) → v.from ≤ v.upto → v.upto ≤ length file → v.upto ≤ v.from + MAXRECORD
-      → validate_cell d (slice file v.from v.upto) ≡ WholeCell → CellSpan (File d) file v.from v.upto (kind_number v.kind)
+      → validate_cell d (slice file v.from v.upto) ≡ Ok tt → CellSpan (File d) file v.from v.upto (kind_number v.kind)
   stretch_of v kind forward within short sound =
       record {
         forward = forward;

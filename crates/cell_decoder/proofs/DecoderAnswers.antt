@@ -1,6 +1,6 @@
 -- The definition's answers, case by case: the code's answer and the room after the call are those of the definition.
 use mathlib.Core.Path.{◌≡◌, refl, sym, ap, ◌∙◌}
-use mathlib.Core.Option.{none, some}
+use Rattle.std.specs.Prelude.{None, Some}
 use Prim.Native.Nat.{ℕ, ◌<◌, ◌≤◌}
 use lib.ListN.{length}
 use borrow.Author.Tests.{lt-ltb, le-ltb}
@@ -8,7 +8,7 @@ use Rattle.model.specs.declared.Report.{Report}
 use Rattle.model.specs.declared.Kind.{Kind}
 use Rattle.model.specs.declared.Dialect.{Dialect}
 use Rattle.model.specs.declared.Fault.{Fault}
-use Rattle.model.specs.declared.CellCheck.TheVariants.{WholeCell, Unsound}
+use Rattle.std.specs.Prelude.{Ok, Err}
 use Rattle.model.specs.rules.Base.{choose◌then◌else◌, Bytes, over}
 use Rattle.model.specs.rules.Dialect.{dialect_of}
 use Rattle.model.specs.rules.Report.{report, refusal, number_of, column_of}
@@ -18,6 +18,7 @@ use Rattle.cell_decoder.specs.declared.Decoded.{Decoded}
 use Rattle.cell_decoder.specs.declared.Decoded.TheVariants.{Content, Refused}
 use Rattle.cell_decoder.specs.Answer.{given_answer, decoder_answer, sound_cell, any_cell}
 use Rattle.cell_decoder.proofs.CellValidation.{no_column}
+use Rattle.model.specs.rules.Types.{cell_fault}
 
 -- the answer r and a room that held old and holds new are the definition's
 abbrev pub Decodes : api.Decoded → Decoded → (old new : Bytes) → Type 0
@@ -42,11 +43,11 @@ module _ (d : Dialect) (raw old : Bytes) where
 
   -- ---- any raw bytes
 
-  pub sound : (r : Decoded) (new : Bytes) → validate_cell d raw ≡ WholeCell → Decodes (sound_cell d raw (length old)) r old new
+  pub sound : (r : Decoded) (new : Bytes) → validate_cell d raw ≡ Ok tt → Decodes (sound_cell d raw (length old)) r old new
       → Decodes (any_cell d raw (length old)) r old new
   sound r new j p = rw j p
 
-  pub unsound : (f : Fault) (o : ℕ) (e : Report) → validate_cell d raw ≡ Unsound f o → e ≡ report (number_of f) 0 (column_of f) o
+  pub unsound : (f : Fault) (o : ℕ) (e : Report) → validate_cell d raw ≡ Err (cell_fault f o) → e ≡ report (number_of f) 0 (column_of f) o
       → Decodes (any_cell d raw (length old)) (Refused e) old old
   unsound f o e j h = rw j (refused e (report (number_of f) 0 0 o) old (h ∙ ap (λ (n : ℕ). report (number_of f) 0 n o) (no_column d raw f o j)))
 
@@ -58,12 +59,12 @@ module _ (n : ℕ) (raw old : Bytes) where
   unfolding api.decoder_leaves
   answers a r new e p = (p.0 ∙ ap decoder_answer (sym e), p.1 ∙ ap (λ (x : api.Decoded). over x.content old) (sym e))
 
-  pub known : (d : Dialect) (r : Decoded) (new : Bytes) → some d ≡ dialect_of n → Decodes (any_cell d raw (length old)) r old new
+  pub known : (d : Dialect) (r : Decoded) (new : Bytes) → Some d ≡ dialect_of n → Decodes (any_cell d raw (length old)) r old new
       → (given_answer r ≡ decoder_answer (api.decoder n raw (length old))) × (new ≡ api.decoder_leaves n raw old)
   unfolding api.decoder
   known d r new e p = answers (any_cell d raw (length old)) r new (rw (← e, api.decoder)) p
 
-  pub unknown : (e : Report) → none ≡ dialect_of n → e ≡ refusal 11
+  pub unknown : (e : Report) → None ≡ dialect_of n → e ≡ refusal 11
       → (given_answer (Refused e) ≡ decoder_answer (api.decoder n raw (length old))) × (old ≡ api.decoder_leaves n raw old)
   unfolding api.decoder
   unknown e f h = answers (api.not_decoded (refusal 11)) (Refused e) old (rw (← f, api.decoder)) (refused e (refusal 11) old h)

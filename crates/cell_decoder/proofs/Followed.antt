@@ -13,7 +13,7 @@ use Rattle.model.specs.declared.Inner.{Inner}
 use Rattle.model.specs.declared.Inner.TheVariants.{Second, LastTwo, Last}
 use Rattle.model.specs.declared.Char.{Char}
 use Rattle.model.specs.declared.Char.TheVariants.{Whole, Within}
-use Rattle.model.specs.declared.Advance.TheVariants.{On, Broken}
+use Rattle.std.specs.Prelude.{Some, None}
 use Rattle.model.specs.declared.Numeral.TheVariants.{Minus, Zero, Integer, Point, Fraction, E, ESign, Exponent}
 use Rattle.model.specs.declared.Word.TheVariants.{T, Tr, Tru, F, Fa, Fal, Fals, N, Nu, Nul, Backslash}
 use Rattle.model.specs.declared.Cell.{Cell}
@@ -21,7 +21,7 @@ use Rattle.model.specs.declared.Cell.TheVariants.{Fresh, Quoted, Closed, Escape,
 use Rattle.model.specs.declared.CellStep.{CellStep}
 use Rattle.model.specs.declared.CellStep.TheVariants.{More, Stop, Refuse}
 use Rattle.model.specs.declared.ByteFault.{ByteFault}
-use Rattle.model.specs.declared.CellCheck.TheVariants.{WholeCell}
+use Rattle.std.specs.Prelude.{Ok}
 use Rattle.model.specs.rules.Base.{Bytes, choose◌then◌else◌, ◌is◌, within}
 use Rattle.model.specs.rules.Dialect.{quote_of, delimiter_of}
 use Rattle.model.specs.rules.Utf8.{row_of, leads, lead_byte, inner_step, char_step}
@@ -44,11 +44,11 @@ data EdStep : CellStep → Type 0 where
   ed_stop : EdStep Stop
   ed_refuse : {e : ByteFault} → EdStep (Refuse e)
 
-ed_char : char_step Whole 0xED ≡ On (Within (Second Ed))
+ed_char : char_step Whole 0xED ≡ Some (Within (Second Ed))
 unfolding char_step lead_byte leads row_of choose◌then◌else◌
 ed_char = refl
 
-ed_inner : (i : Inner) → char_step (Within i) 0xED ≡ Broken
+ed_inner : (i : Inner) → char_step (Within i) 0xED ≡ None
 unfolding char_step inner_step row_of choose◌then◌else◌
 ed_inner (Second C2ToDf) = refl
 ed_inner (Second E0) = refl
@@ -108,7 +108,7 @@ after_ed ed_stop e = no_stop e
 after_ed ed_refuse e = no_more e
 
 -- the byte after ED
-ed_low : (b : ℕ) (c : Char) → char_step (Within (Second Ed)) b ≡ On c → (0x80 ≤ b) × (b ≤ 0x9F)
+ed_low : (b : ℕ) (c : Char) → char_step (Within (Second Ed)) b ≡ Some c → (0x80 ≤ b) × (b ≤ 0x9F)
 unfolding char_step inner_step row_of choose◌then◌else◌
 ed_low b c e = split_on (within 0x80 0x9F b) (λ p. within_true 0x80 0x9F b p) λ p. broken_on (rw p at e)
 
@@ -144,7 +144,7 @@ run_closed d {c} (there {c'} {b} {bs} x r) w =
     (λ f. low_closed (low_next d (after_ed (ed_step d c) (rw (is→eq b 0xED f) at x)) r w) (run_closed d r w)) λ f.
     closed_other (λ z. impossible (sym f ∙ eq-eqb b 0xED z)) (run_closed d r w)
 
-pub sound_closed : (d : Dialect) (raw : Bytes) → validate_cell d raw ≡ WholeCell → EdClosed raw
+pub sound_closed : (d : Dialect) (raw : Bytes) → validate_cell d raw ≡ Ok tt → EdClosed raw
 unfolding validate_cell
 sound_closed d raw j = let r = sound_runs d Fresh 0 raw j in run_closed d r.runs r.whole
 
@@ -163,5 +163,5 @@ closed_followed (closed_other {b} {bs} n h) (suc i) l e = further b bs i (closed
 closed_followed (closed_ed l m h) zero k e = record { least = l; most = m }
 closed_followed (closed_ed {b} {c} {bs} l m h) (suc i) k e = further b (c ∷ bs) i (closed_followed h i (omega arith) e)
 
-pub sound_followed : (d : Dialect) (raw : Bytes) → validate_cell d raw ≡ WholeCell → EdFollowed raw
+pub sound_followed : (d : Dialect) (raw : Bytes) → validate_cell d raw ≡ Ok tt → EdFollowed raw
 sound_followed d raw j = closed_followed (sound_closed d raw j)

@@ -2,7 +2,7 @@
 use Rattle.std.specs.Prelude.{ℕ, length}
 use Rattle.model.specs.declared.Report.{Report}
 use Rattle.model.specs.declared.Dialect.{Dialect}
-use Rattle.model.specs.declared.CellCheck.TheVariants.{WholeCell}
+use Rattle.std.specs.Prelude.{Ok}
 use Rattle.model.specs.rules.Base.{Bytes}
 use Rattle.model.specs.rules.Report.{accepted}
 use Rattle.model.specs.rules.Decode.{kind_number, validate_cell}
@@ -26,7 +26,7 @@ decoder_answer a = record { report = a.report; kind = a.kind; size = length a.co
 
 -- the definition of a call that knows its dialect, for a cell that is known to be sound and for any
 abbrev pub sound_cell : Dialect → Bytes → (room : ℕ) → api.Decoded
-sound_cell d raw room = api.decoded_as d raw room WholeCell
+sound_cell d raw room = api.decoded_as d raw room (Ok tt)
 
 abbrev pub any_cell : Dialect → Bytes → (room : ℕ) → api.Decoded
 any_cell d raw room = api.decoded_as d raw room (validate_cell d raw)

@@ -1,6 +1,6 @@
 -- The cells of a record in lists: their bytes as spans of a file or of a table's content, their kinds as numbers.
 use Rattle.std.specs.Prelude.{ℕ, ◌<◌, ◌≤◌, ◌≡◌, List, [], ◌∷◌, length, get_or}
-use Rattle.std.proofs.Math.Option.{Option, none, some}
+use Rattle.std.specs.Prelude.{Option, None, Some}
 use Rattle.model.specs.declared.Dialect.{Dialect}
 use Rattle.model.specs.declared.Kind.{Kind}
 use Rattle.model.specs.declared.Kind.TheVariants.{Null}
@@ -18,8 +18,8 @@ use Rattle.cell_decoder.specs.declared.source.Source.TheVariants.{File, Contents
 
 -- a kind if there is one
 abbrev pub or_null : Option Kind → Kind
-or_null none = Null
-or_null (some k) = k
+or_null None = Null
+or_null (Some k) = k
 
 -- the kind of a number, where numbers of no kind were refused before (§2.3 §13.6)
 abbrev pub kind_from : ℕ → Kind

@@ -15,8 +15,8 @@ ghost use Rattle.model.specs.rules.Decode.{content_of};
 ghost use Rattle.model.specs.rules.Api.{decoder, decoder_leaves};
 ghost use Rattle.cell_decoder.specs.Answer.{given_answer, decoder_answer, sound_cell, any_cell};
 
-use codes::{NamedDialect, cell};
-use model::{CellCheck, Dialect, Kind, Report};
+use codes::cell;
+use model::{CellFault, Dialect, Kind, Report};
 
 pub mod content;
 pub mod escape;
@@ -73,8 +73,8 @@ pub fn decode_cell(d: Dialect, raw: &[u8], room: &mut [u8]) -> Decoded
     ensures room_after { room.new ≡ over (any_cell d raw.now (length room.old)).content room.old }
 {
     match validate::validate_cell(d, raw) {
-        CellCheck::WholeCell => decode_sound(d, raw, room),
-        CellCheck::Unsound { fault, offset } => {
+        Ok(()) => decode_sound(d, raw, room),
+        Err(CellFault { fault, offset }) => {
             Decoded::Refused(codes::record_report(fault, 0, offset))
         }
     }
@@ -86,8 +86,8 @@ pub fn decode(dialect: u32, raw: &[u8], room: &mut [u8]) -> Decoded
     ensures answer { given_answer result ≡ decoder_answer (decoder dialect raw.now (length room.old)) }
     ensures leaves { room.new ≡ decoder_leaves dialect raw.now room.old }
 {
-    match codes::dialect_of(dialect) {
-        NamedDialect::Known(d) => decode_cell(d, raw, room),
-        NamedDialect::Unknown => Decoded::Refused(codes::call_report(codes::WRONG_CALL)),
+    match Dialect::try_from(dialect) {
+        Ok(d) => decode_cell(d, raw, room),
+        Err(_) => Decoded::Refused(codes::call_report(codes::WRONG_CALL)),
     }
 }

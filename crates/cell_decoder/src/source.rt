@@ -7,7 +7,7 @@ ghost use Rattle.cell_decoder.specs.Sources.{kind_from, content_by, spelling_in}
 
 use crate::first_byte;
 use crate::first_byte::Spelling;
-use codes::{NamedKind, cell};
+use codes::cell;
 use model::{Dialect, Kind};
 
 #[derive(Clone, Copy)]
@@ -20,9 +20,9 @@ pub enum Source {
 pub fn kind_of_number(number: u8) -> Kind
     ensures { result ≡ kind_from number }
 {
-    match codes::kind_named(number) {
-        NamedKind::Known(k) => k,
-        NamedKind::Unknown => Kind::Null,
+    match Kind::try_from(number) {
+        Ok(k) => k,
+        Err(_) => Kind::Null,
     }
 }
 

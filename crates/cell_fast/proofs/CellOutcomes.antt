@@ -9,8 +9,8 @@ use lib.Seq.{length-take-le}
 use Rattle.model.specs.declared.Dialect.{Dialect}
 use Rattle.model.specs.declared.Char.{Char}
 use Rattle.model.specs.declared.Char.TheVariants.{Whole}
-use Rattle.model.specs.declared.Advance.{Advance}
-use Rattle.model.specs.declared.Advance.TheVariants.{On, Broken}
+use Rattle.std.specs.Prelude.{Option}
+use Rattle.std.specs.Prelude.{Some, None}
 use Rattle.model.specs.declared.Cell.{Cell}
 use Rattle.model.specs.declared.Cell.TheVariants.{Fresh}
 use Rattle.model.specs.declared.CellStep.TheVariants.{More, Stop}
@@ -65,8 +65,8 @@ value_found f = record { ends = f; content = λ h e. impossible e }
 -- ---- bytes that lead from one cell state to another by the UTF-8 state of a text
 
 module _ (d : Dialect) (f : Char → Cell) (passes : ℕ → Bool)
-    (step : (c c' : Char) (b : ℕ) → passes b ≡ true → char_step c b ≡ On c' → cell_step d (f c) b ≡ More (f c')) where
-  list_comes : (xs ys : Bytes) (c c' : Char) (i : ℕ) → all_pass passes xs ≡ true → chars_from c xs ≡ On c'
+    (step : (c c' : Char) (b : ℕ) → passes b ≡ true → char_step c b ≡ Some c' → cell_step d (f c) b ≡ More (f c')) where
+  list_comes : (xs ys : Bytes) (c c' : Char) (i : ℕ) → all_pass passes xs ≡ true → chars_from c xs ≡ Some c'
       → cell_run d (f c) i (xs ++ ys) ≡ cell_run d (f c') (i + length xs) ys
   unfolding cell_run all_pass chars_from
   list_comes [] ys c c' i e h =
@@ -75,13 +75,13 @@ module _ (d : Dialect) (f : Char → Cell) (passes : ℕ → Bool)
       rw z (ap (λ (k : ℕ). cell_run d (f c') k ys) n)
   list_comes (b ∷ xs) ys c c' i e h = go (char_step c b) refl h λ t k. list_comes xs ys t c' (suc i) (and_true (passes b) (all_pass passes xs) e).1 k
     where
-      go : (o : Advance) → char_step c b ≡ o → (elim o as (λ _. Advance) [ On t ↦ chars_from t xs | Broken ↦ Broken ]) ≡ On c'
-          → ((t : Char) → chars_from t xs ≡ On c' → cell_run d (f t) (suc i) (xs ++ ys) ≡ cell_run d (f c') (suc i + length xs) ys)
+      go : (o : Option Char) → char_step c b ≡ o → (elim o as (λ _. Option Char) [ Some t ↦ chars_from t xs | None ↦ None ]) ≡ Some c'
+          → ((t : Char) → chars_from t xs ≡ Some c' → cell_run d (f t) (suc i) (xs ++ ys) ≡ cell_run d (f c') (suc i + length xs) ys)
           → cell_run d (f c) i (b ∷ (xs ++ ys)) ≡ cell_run d (f c') (i + suc (length xs)) ys
-      go (On t) p k ih =
+      go (Some t) p k ih =
           let n : suc i + length xs ≡ i + suc (length xs) = omega arith in
           rw (step c t b (and_true (passes b) (all_pass passes xs) e).0 p, cell_run) (ih t k ∙ ap (λ (m : ℕ). cell_run d (f c') m ys) n)
-      go Broken p k ih = broken_on k
+      go None p k ih = broken_on k
 
   pub text_comes : {s : Bytes} {at stop r : ℕ} → TextRun passes s at stop r → stop ≤ length s → Results d s stop (f Whole) at (f Whole) r
   text_comes {s} {at} {stop} {r} x k =

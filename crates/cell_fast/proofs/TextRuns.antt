@@ -12,7 +12,7 @@ use Rattle.model.specs.declared.Dialect.{Dialect}
 use Rattle.model.specs.declared.Dialect.TheVariants.{Csvj, Tdif, CsvPlus}
 use Rattle.model.specs.declared.Char.{Char}
 use Rattle.model.specs.declared.Char.TheVariants.{Whole, Within}
-use Rattle.model.specs.declared.Advance.TheVariants.{On}
+use Rattle.std.specs.Prelude.{Some}
 use Rattle.model.specs.declared.Cell.TheVariants.{Quoted, Plain}
 use Rattle.model.specs.declared.CellStep.TheVariants.{More}
 use Rattle.model.specs.rules.Base.{Bytes, choose◌then◌else◌, ◌is◌, within, CR, LF, BACKSLASH}
@@ -53,7 +53,7 @@ high_open p q b hp hq h = rw (le-leb 0x20 b (omega arith), ne_eqb b q (omega ari
 
 -- ---- runs
 
-ascii_chars : (passes : ℕ → Bool) → ((b : ℕ) → passes b ≡ true → b ≤ 0x7F) → (bs : Bytes) → all_pass passes bs ≡ true → chars_from Whole bs ≡ On Whole
+ascii_chars : (passes : ℕ → Bool) → ((b : ℕ) → passes b ≡ true → b ≤ 0x7F) → (bs : Bytes) → all_pass passes bs ≡ true → chars_from Whole bs ≡ Some Whole
 unfolding chars_from all_pass
 ascii_chars passes low [] e = refl
 ascii_chars passes low (b ∷ bs) e =
@@ -105,7 +105,7 @@ text_clean p q x = text_weaker (is_clean q) (open_clean p q) x
 
 -- ---- they leave a cell's state unchanged
 
-quoted_step : (d : Dialect) (c c' : Char) (b : ℕ) → is_clean (quote_of d) b ≡ true → char_step c b ≡ On c' → cell_step d (Quoted c) b ≡ More (Quoted c')
+quoted_step : (d : Dialect) (c c' : Char) (b : ℕ) → is_clean (quote_of d) b ≡ true → char_step c b ≡ Some c' → cell_step d (Quoted c) b ≡ More (Quoted c')
 unfolding cell_step quoted_byte choose◌then◌else◌
 quoted_step Csvj Whole c' b e h =
     let k = clean_is (quote_of Csvj) b e in
@@ -114,7 +114,7 @@ quoted_step Tdif Whole c' b e h = let k = clean_is (quote_of Tdif) b e in rw (k.
 quoted_step (CsvPlus s) Whole c' b e h = let k = clean_is (quote_of (CsvPlus s)) b e in rw (k.no_quote, h)
 quoted_step d (Within i) c' b e h = rw h
 
-plain_step : (d : Dialect) (c c' : Char) (b : ℕ) → is_open (delimiter_of d) (quote_of d) b ≡ true → char_step c b ≡ On c' → cell_step d (Plain c) b ≡ More (Plain c')
+plain_step : (d : Dialect) (c c' : Char) (b : ℕ) → is_open (delimiter_of d) (quote_of d) b ≡ true → char_step c b ≡ Some c' → cell_step d (Plain c) b ≡ More (Plain c')
 unfolding cell_step plain_byte is_open choose◌then◌else◌
 plain_step d Whole c' b e h =
     let x = and_true (is_clean (quote_of d) b) (not (b is delimiter_of d)) e in

@@ -1,7 +1,7 @@
 -- Spans of bytes that are skipped at once.
 use Rattle.std.specs.Prelude.{ℕ, ◌≤◌, ◌≡◌, Bool, true, not, ◌&&◌}
 use Rattle.model.specs.declared.Char.TheVariants.{Whole}
-use Rattle.model.specs.declared.Advance.TheVariants.{On}
+use Rattle.std.specs.Prelude.{Some}
 use Rattle.model.specs.rules.Base.{Bytes, ◌is◌}
 use Rattle.model.specs.rules.Api.{slice}
 use Rattle.swar.specs.Words.{is_clean, all_pass}
@@ -18,7 +18,7 @@ pub record TextRun (passes : ℕ → Bool) (s : Bytes) (at stop r : ℕ) : Type 
   pub from : at ≤ r
   pub upto : r ≤ stop
   pub each : all_pass passes (slice s at r) ≡ true
-  pub whole : chars_from Whole (slice s at r) ≡ On Whole
+  pub whole : chars_from Whole (slice s at r) ≡ Some Whole
 
 -- a clean byte other than the delimiter: one of an unquoted cell
 unfoldable pub is_open : (delimiter quote b : ℕ) → Bool

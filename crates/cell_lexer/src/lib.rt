@@ -12,9 +12,7 @@ ghost use Rattle.model.specs.rules.Dialect.{delimiter_of, quote_of};
 ghost use Rattle.model.specs.rules.Cell.{first_byte, quoted_byte, plain_byte, cell_step};
 ghost use Rattle.cell_lexer.specs.ByteClass.{cell_step_of};
 
-use model::{
-    Advance, ByteFault, Cell, CellStep, Char, Delimiter, Dialect, HexLeft, Quote, Settings, Word,
-};
+use model::{ByteFault, Cell, CellStep, Char, Delimiter, Dialect, HexLeft, Quote, Settings, Word};
 
 pub mod values;
 
@@ -224,12 +222,12 @@ pub fn cell_step(d: Dialect, c: Cell, b: u8) -> CellStep
     match classify(d, c, b) {
         ByteClass::Is(a) => a,
         ByteClass::InQuotes(t) => match utf8::char_step(t, b) {
-            Advance::On(next) => CellStep::More(Cell::Quoted(next)),
-            Advance::Broken => CellStep::Refuse(ByteFault::Encoding),
+            Some(next) => CellStep::More(Cell::Quoted(next)),
+            None => CellStep::Refuse(ByteFault::Encoding),
         },
         ByteClass::InPlain(t) => match utf8::char_step(t, b) {
-            Advance::On(next) => CellStep::More(Cell::Plain(next)),
-            Advance::Broken => CellStep::Refuse(ByteFault::Encoding),
+            Some(next) => CellStep::More(Cell::Plain(next)),
+            None => CellStep::Refuse(ByteFault::Encoding),
         },
     }
 }

@@ -5,7 +5,7 @@ use Prim.Native.Nat.{ℕ, zero, suc, ◌+◌, ◌-◌, ◌≤◌, ◌<◌}
 use native.Mathlib.Omega.{arith}
 use mathlib.Core.Path.{◌≡◌, refl, sym, ap, ◌∙◌}
 use mathlib.Core.Bool.{Bool, true, false}
-use mathlib.Core.Option.{Option}
+use Rattle.std.specs.Prelude.{Option}
 use mathlib.Core.List.{List, [], ◌∷◌, ◌++◌, append_assoc, append-nil}
 use lib.ListN.{length, take, drop, length-append, take-append-drop}
 use lib.Seq.{drop-drop}
@@ -15,14 +15,13 @@ use Rattle.model.specs.declared.Target.{Target}
 use Rattle.model.specs.declared.Char.{Char}
 use Rattle.model.specs.declared.Char.TheVariants.{Whole, Within}
 use Rattle.model.specs.declared.Cell.{Cell}
-use Rattle.model.specs.declared.CheckResult.{CheckResult}
-use Rattle.model.specs.declared.CheckResult.TheVariants.{Sound, Faulty}
+use Rattle.model.specs.rules.Types.{CheckResult}
+use Rattle.std.specs.Prelude.{Ok, Err}
 use Rattle.model.specs.declared.Fault.{Fault}
 use Rattle.model.specs.declared.FileState.{FileState}
 use Rattle.model.specs.declared.FileState.TheVariants.{Top, Begin, Ended, Bom1, Bom2, PlainBom1, PlainBom2, Comment, Blanks, ExpectCell, Inside, After, Cr}
 use Rattle.model.specs.declared.ByteRole.TheVariants.{Outside, OfCell}
-use Rattle.model.specs.declared.Step.{Step}
-use Rattle.model.specs.declared.Step.TheVariants.{To}
+use Rattle.model.specs.rules.Types.{Step}
 use Rattle.model.specs.rules.Base.{Bytes, choose◌then◌else◌}
 use Rattle.model.specs.rules.Dialect.{quote_of}
 use Rattle.model.specs.rules.File.{in_cell, file_step}
@@ -107,7 +106,7 @@ all_ordinary p q b xs e = go (ordinary p q b) e
     go false h = absurd (omega arith)
 
 module _ (d : Dialect) (target : Option Target) where
-  of_cell : (c : Cell) (r : Read) (b : ℕ) → file_step d r.state b ≡ To r.state OfCell → r.offset < MAXFILE → r.size < MAXRECORD
+  of_cell : (c : Cell) (r : Read) (b : ℕ) → file_step d r.state b ≡ Ok (r.state, OfCell) → r.offset < MAXFILE → r.size < MAXRECORD
       → read_byte d target r b ≡ going (ran_at (in_cell_lem c) r (b ∷ []))
   unfolding read_byte file_full record_full move ran_at choose◌then◌else◌
   of_cell c r b e h k =
@@ -115,7 +114,7 @@ module _ (d : Dialect) (target : Option Target) where
       let m : suc r.size ≡ r.size + 1 = omega arith in
       rw (lt-leb MAXFILE r.offset h, lt-leb MAXRECORD r.size k, e) (cc)
 
-  of_comment : (t : Char) (r : Read) (b : ℕ) → file_step d r.state b ≡ To r.state Outside → r.offset < MAXFILE → r.size < MAXRECORD
+  of_comment : (t : Char) (r : Read) (b : ℕ) → file_step d r.state b ≡ Ok (r.state, Outside) → r.offset < MAXFILE → r.size < MAXRECORD
       → read_byte d target r b ≡ going (ran_at (in_comment t) r (b ∷ []))
   unfolding read_byte file_full record_full move ran_at choose◌then◌else◌
   of_comment t r b e h k =
@@ -302,8 +301,8 @@ resting elsewhere rs f o s = refl
 
 module _ (d : Dialect) (target : Option Target) where
   validated_stands : (r : Read) (rs : List Rec) (f : FileState) (o : ℕ) (v : CheckResult) → LiesAfter (validated r (between_records rs f o) v)
-  validated_stands r rs f o Sound = proceeds_on (resting (place_in f) rs f o o)
-  validated_stands r rs f o (Faulty e) = stops
+  validated_stands r rs f o (Ok _) = proceeds_on (resting (place_in f) rs f o o)
+  validated_stands r rs f o (Err e) = stops
 
   -- a step into a comment is outside records
   move_stands : (r : Read) (b : ℕ) {f : FileState} {s : Step} → Transition d f b s → LiesAfter (move d target r b s)

@@ -18,7 +18,7 @@ use Rattle.model.specs.declared.CellStep.TheVariants.{More, Stop, Refuse}
 use Rattle.model.specs.declared.ByteFault.{ByteFault}
 use Rattle.model.specs.declared.FileState.TheVariants.{Comment}
 use Rattle.model.specs.declared.ByteRole.TheVariants.{Outside}
-use Rattle.model.specs.declared.Step.TheVariants.{To}
+use Rattle.std.specs.Prelude.{Ok}
 use Rattle.model.specs.rules.Base.{Bytes, choose◌then◌else◌, within, ◌is◌, QUOTE, CR, LF}
 use Rattle.model.specs.rules.Dialect.{quote_of, delimiter_of}
 use Rattle.model.specs.rules.Cell.{quoted_byte, plain_byte, cell_step}
@@ -123,7 +123,7 @@ run_step d (Plain (Within i)) q b e h = no_run e
 run_step d Complete q b e h = no_run e
 
 -- in a comment every ordinary byte leaves the state unchanged
-pub comment_step : (d : Dialect) (b : ℕ) → ordinary 0 0 b ≡ true → file_step d (Comment Whole) b ≡ To (Comment Whole) Outside
+pub comment_step : (d : Dialect) (b : ℕ) → ordinary 0 0 b ≡ true → file_step d (Comment Whole) b ≡ Ok (Comment Whole, Outside)
 unfolding file_step choose◌then◌else◌
 comment_step d b e =
     let k = plainly 0 0 b e in

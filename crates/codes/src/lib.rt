@@ -6,11 +6,9 @@
 #![tactic(auto)]
 
 ghost use Rattle.std.specs.Prelude.{◌≡◌};
-ghost use Rattle.model.specs.rules.Dialect.{dialect_of};
-ghost use Rattle.model.specs.rules.Decode.{kind_number};
 ghost use Rattle.model.specs.rules.Report.{number_of, column_of, report, refusal};
-ghost use Rattle.model.specs.rules.Api.{least, kind_named, unwritten};
-ghost use Rattle.codes.specs.Named.{dialect_in, kind_in, text_answer};
+ghost use Rattle.model.specs.rules.Api.{unwritten};
+ghost use Rattle.codes.specs.Named.{text_answer};
 
 use model::{ByteFault, Delimiter, Dialect, Fault, Kind, Quote, Report, Settings};
 
@@ -32,84 +30,6 @@ pub const MAX_PIECE: usize = 4096;
 
 // The least size of the output of a piece or end call (§15.7).
 pub const LEAST_OUTPUT: usize = 49152;
-
-pub fn min_of(a: usize, b: usize) -> usize
-    ensures { result ≡ least a b }
-{
-    if a <= b {
-        return a;
-    }
-    b
-}
-
-// ---- dialects
-
-#[derive(Clone, Copy)]
-pub enum NamedDialect {
-    Known(Dialect),
-    Unknown,
-}
-
-// The dialect that a number names (§1.4).
-pub fn dialect_of(number: u32) -> NamedDialect
-    ensures { dialect_in result ≡ dialect_of number }
-{
-    if number == 1 {
-        return NamedDialect::Known(Dialect::Csvj);
-    }
-    if number == 2 {
-        return NamedDialect::Known(Dialect::Tdif);
-    }
-    if number == 3 {
-        return NamedDialect::Known(Dialect::CsvPlus(Settings {
-            delimiter: Delimiter::Comma,
-            quote: Quote::Double,
-        }));
-    }
-    NamedDialect::Unknown
-}
-
-// ---- kinds
-
-pub fn kind_number(k: Kind) -> u8
-    ensures { result ≡ kind_number k }
-{
-    match k {
-        Kind::Text => 1,
-        Kind::Number => 2,
-        Kind::True => 3,
-        Kind::False => 4,
-        Kind::Null => 5,
-    }
-}
-
-#[derive(Clone, Copy)]
-pub enum NamedKind {
-    Known(Kind),
-    Unknown,
-}
-
-// The kind that a number names (§2.3).
-pub fn kind_named(number: u8) -> NamedKind
-    ensures { kind_in result ≡ kind_named number }
-{
-    if number == 1 {
-        return NamedKind::Known(Kind::Text);
-    }
-    if number == 2 {
-        return NamedKind::Known(Kind::Number);
-    }
-    if number == 3 {
-        return NamedKind::Known(Kind::True);
-    }
-    if number == 4 {
-        return NamedKind::Known(Kind::False);
-    }
-    if number == 5 {
-        return NamedKind::Known(Kind::Null);
-    }
-    NamedKind::Unknown
-}
 
 // ---- reports
 

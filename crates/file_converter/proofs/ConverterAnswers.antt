@@ -2,7 +2,7 @@
 use Prim.Native.Nat.{ℕ, ◌≤◌, ◌<◌}
 use native.Mathlib.Omega.{arith}
 use mathlib.Core.Path.{◌≡◌, refl, sym, ap, ◌∙◌}
-use mathlib.Core.Option.{none, some}
+use Rattle.std.specs.Prelude.{None, Some}
 use lib.ListN.{length, drop, length-append, length-drop}
 use borrow.Author.Tests.{lt-ltb, le-ltb}
 use Rattle.model.specs.declared.Dialect.{Dialect}
@@ -88,17 +88,17 @@ long_filled d t file old a out e =
 -- ---- by number
 
 converter_known :
-    (m n : ℕ) (d t : Dialect) (file : Bytes) (room : ℕ) → dialect_of m ≡ some d → dialect_of n ≡ some t →
+    (m n : ℕ) (d t : Dialect) (file : Bytes) (room : ℕ) → dialect_of m ≡ Some d → dialect_of n ≡ Some t →
     converter m n file room ≡ answer_in d t file room
 unfolding converter
 converter_known m n d t file room e k = rw (e, converter, k)
 
-converter_source : (m n : ℕ) (file : Bytes) (room : ℕ) → dialect_of m ≡ none → converter m n file room ≡ unwritten (refusal 11)
+converter_source : (m n : ℕ) (file : Bytes) (room : ℕ) → dialect_of m ≡ None → converter m n file room ≡ unwritten (refusal 11)
 unfolding converter
 converter_source m n file room e = rw (e, converter)
 
 converter_target :
-    (m n : ℕ) (d : Dialect) (file : Bytes) (room : ℕ) → dialect_of m ≡ some d → dialect_of n ≡ none →
+    (m n : ℕ) (d : Dialect) (file : Bytes) (room : ℕ) → dialect_of m ≡ Some d → dialect_of n ≡ None →
     converter m n file room ≡ unwritten (refusal 11)
 unfolding converter
 converter_target m n d file room e k = rw (e, converter, k)
@@ -111,7 +111,7 @@ unfolding converter_leaves
 by_converter m n file old w r out e a l = (a ∙ ap text_answer (sym e), l ∙ ap (λ (w : Written). over w.text old) (sym e))
 
 pub both_known :
-    (m n : ℕ) (d t : Dialect) (file old : Bytes) (r : TextAnswer) (out : Bytes) → dialect_of m ≡ some d → dialect_of n ≡ some t →
+    (m n : ℕ) (d t : Dialect) (file old : Bytes) (r : TextAnswer) (out : Bytes) → dialect_of m ≡ Some d → dialect_of n ≡ Some t →
     r ≡ text_answer (answer_in d t file (length old)) → out ≡ over (answer_in d t file (length old)).text old →
     (r ≡ text_answer (converter m n file (length old))) × (out ≡ converter_leaves m n file old)
 both_known m n d t file old r out e k a l = by_converter m n file old (answer_in d t file (length old)) r out (converter_known m n d t file (length old) e k) a l
@@ -122,11 +122,11 @@ unknown :
 unknown m n file old x r e ex h = by_converter m n file old (unwritten (refusal 11)) r old e (h ∙ ap (λ (x : Report). text_answer (unwritten x)) ex) refl
 
 pub source_unknown :
-    (m n : ℕ) (file old : Bytes) (x : Report) (r : TextAnswer) → dialect_of m ≡ none → x ≡ refusal 11 → r ≡ text_answer (unwritten x) →
+    (m n : ℕ) (file old : Bytes) (x : Report) (r : TextAnswer) → dialect_of m ≡ None → x ≡ refusal 11 → r ≡ text_answer (unwritten x) →
     (r ≡ text_answer (converter m n file (length old))) × (old ≡ converter_leaves m n file old)
 source_unknown m n file old x r e = unknown m n file old x r (converter_source m n file (length old) e)
 
 pub target_unknown :
-    (m n : ℕ) (d : Dialect) (file old : Bytes) (x : Report) (r : TextAnswer) → dialect_of m ≡ some d → dialect_of n ≡ none → x ≡ refusal 11 →
+    (m n : ℕ) (d : Dialect) (file old : Bytes) (x : Report) (r : TextAnswer) → dialect_of m ≡ Some d → dialect_of n ≡ None → x ≡ refusal 11 →
     r ≡ text_answer (unwritten x) → (r ≡ text_answer (converter m n file (length old))) × (old ≡ converter_leaves m n file old)
 target_unknown m n d file old x r e k = unknown m n file old x r (converter_target m n d file (length old) e k)

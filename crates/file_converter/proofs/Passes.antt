@@ -3,7 +3,7 @@ use Prim.Native.Nat.{ℕ, ◌+◌, ◌≤◌}
 use native.Mathlib.Omega.{arith}
 use mathlib.Core.Path.{◌≡◌, refl, sym, ap, subst, ◌∙◌}
 use mathlib.Core.Bool.{Bool, true, false}
-use mathlib.Core.Option.{none}
+use Rattle.std.specs.Prelude.{None}
 use mathlib.Core.List.{List, [], ◌∷◌, ◌++◌, append-nil}
 use lib.ListN.{length, take, length-append}
 use lib.Dec.{eqb}
@@ -77,7 +77,7 @@ fills d t file old c q =
 
 module _ {d t : Dialect} {file old out : Bytes} {c : Cursor} {at : ℕ} (y : Filling d t file old out c at) (a : Accepts d t file (length old)) where
   -- without its target the file is read to the same records
-  alone : read_file d none file ≡ going a.r
+  alone : read_file d None file ≡ going a.r
   alone = file_alone d (into t) file a.r a.reads
 
   module _ {s e k : List ℕ} {v : Cursor} (n : Next d Reading file y.walk.rs c.state c.offset s e k v) where
@@ -100,7 +100,7 @@ module _ {d t : Dialect} {file old out : Bytes} {c : Cursor} {at : ℕ} (y : Fil
     within =
         let g : Grows (y.walk.rs ++ (n.rec ∷ [])) a.r.done
         = subst (λ (p : Progress). Grows (y.walk.rs ++ (n.rec ∷ [])) (records_of p)) alone
-        (subst (λ (l : List Rec). Grows l (records_of (read_file d none file))) (walks_rs y.walk n)
+        (subst (λ (l : List Rec). Grows l (records_of (read_file d None file))) (walks_rs y.walk n)
         (grows (walks_on y.walk n))) in
         let h = table_grows (into t) g in
         let l : length (text_in t a.r) ≡ length (table_text (into t) (rows (y.walk.rs ++ (n.rec ∷ [])))) + length h.added

@@ -1,6 +1,6 @@
 -- The contract of each pass of a conversion, in terms of reading with a target.
 use Rattle.std.specs.Prelude.{ℕ, ◌≤◌, ◌≡◌, length}
-use Rattle.std.proofs.Math.Option.{some}
+use Rattle.std.specs.Prelude.{Some}
 use Rattle.model.specs.declared.Dialect.{Dialect}
 use Rattle.model.specs.declared.Fault.{Fault}
 use Rattle.model.specs.rules.Base.{Bytes}
@@ -13,7 +13,7 @@ use Rattle.file_converter.specs.declared.Measurement.TheVariants.{Accepted, Refu
 
 -- the answer for a file of d into t
 abbrev pub answer_in : (d t : Dialect) → Bytes → (room : ℕ) → Written
-answer_in d t file room = converted_as (into t) room (read_file d (some (into t)) file)
+answer_in d t file room = converted_as (into t) room (read_file d (Some (into t)) file)
 
 -- the canonical text of what was read
 abbrev pub text_in : Dialect → Read → Bytes
@@ -21,11 +21,11 @@ text_in t r = table_text (into t) (rows r.done)
 
 -- the result of the first pass: the length of the text, or the report of a fault
 pub data MeasureSound (d t : Dialect) (file : Bytes) : Measurement → Type 0 where
-  accepted : {n : ℕ} (r : Read) → read_file d (some (into t)) file ≡ going r → length (text_in t r) ≡ n → MeasureSound d t file (Accepted n)
-  refused : (e : Fault) (r : Read) → read_file d (some (into t)) file ≡ stopped e r → MeasureSound d t file (Refused (fault_report e r))
+  accepted : {n : ℕ} (r : Read) → read_file d (Some (into t)) file ≡ going r → length (text_in t r) ≡ n → MeasureSound d t file (Accepted n)
+  refused : (e : Fault) (r : Read) → read_file d (Some (into t)) file ≡ stopped e r → MeasureSound d t file (Refused (fault_report e r))
 
 -- the file is accepted, and its text has room
 pub record Accepts (d t : Dialect) (file : Bytes) (room : ℕ) : Type 0 where
   pub r : Read
-  pub reads : read_file d (some (into t)) file ≡ going r
+  pub reads : read_file d (Some (into t)) file ≡ going r
   pub fits : length (text_in t r) ≤ room

@@ -17,7 +17,7 @@ ghost use Rattle.cell_decoder.specs.Sources.{cells_in, Cells};
 ghost use Rattle.file_converter.specs.Converts.{answer_in, MeasureSound, Accepts};
 
 use cell_decoder::source::Source;
-use codes::{MAX_COLUMNS, NamedDialect, TextAnswer};
+use codes::{MAX_COLUMNS, TextAnswer};
 use file_cursor::fast::FastNext;
 use file_cursor::{Aim, NextRecord};
 use model::{Dialect, Report};
@@ -214,11 +214,11 @@ pub fn convert(from: u32, to: u32, file: &[u8], room: &mut [u8]) -> TextAnswer
     ensures answer { result ≡ text_answer (converter from to file.now (length room.old)) }
     ensures leaves { room.new ≡ converter_leaves from to file.now room.old }
 {
-    match codes::dialect_of(from) {
-        NamedDialect::Known(d) => match codes::dialect_of(to) {
-            NamedDialect::Known(t) => convert_in(d, t, file, room),
-            NamedDialect::Unknown => codes::refusal(codes::call_report(codes::WRONG_CALL)),
+    match Dialect::try_from(from) {
+        Ok(d) => match Dialect::try_from(to) {
+            Ok(t) => convert_in(d, t, file, room),
+            Err(_) => codes::refusal(codes::call_report(codes::WRONG_CALL)),
         },
-        NamedDialect::Unknown => codes::refusal(codes::call_report(codes::WRONG_CALL)),
+        Err(_) => codes::refusal(codes::call_report(codes::WRONG_CALL)),
     }
 }

@@ -9,7 +9,7 @@ use lib.ListN.{length, set, drop, length-append, length-map}
 use lib.Dec.{leb, ltb}
 use Rattle.model.specs.declared.Dialect.{Dialect}
 use Rattle.model.specs.declared.FileState.{FileState}
-use Rattle.model.specs.declared.Step.{Step}
+use Rattle.model.specs.rules.Types.{Step}
 use Rattle.model.specs.rules.Base.{choose◌then◌else◌, Bytes}
 use Rattle.model.specs.rules.File.{file_step, file_end, counts}
 use Rattle.model.specs.rules.Report.{MAXFILE, MAXRECORD}

@@ -3,7 +3,7 @@ use Prim.Native.Nat.{ℕ, suc, ◌+◌, ◌≤◌, ◌<◌}
 use native.Mathlib.Omega.{arith}
 use mathlib.Core.Path.{◌≡◌, refl, sym, ap, subst, ◌∙◌}
 use mathlib.Core.Bool.{true}
-use mathlib.Core.Option.{Option, none}
+use Rattle.std.specs.Prelude.{Option, None}
 use mathlib.Core.List.{List, [], ◌∷◌, ◌++◌}
 use lib.ListN.{length, take, drop, length-append, drop_of_length-le}
 use lib.Dec.{ltb}
@@ -15,7 +15,7 @@ use Rattle.model.specs.declared.FileState.TheVariants.{Top, Begin, Ended, Bom1, 
 use Rattle.model.specs.declared.Fault.{Fault}
 use Rattle.model.specs.declared.Fault.TheVariants.{NoRecord}
 use Rattle.model.specs.declared.Report.{Report}
-use Rattle.model.specs.declared.CheckResult.TheVariants.{Sound, Faulty}
+use Rattle.std.specs.Prelude.{Ok, Err}
 use Rattle.model.specs.rules.Base.{Bytes, is_empty}
 use Rattle.model.specs.rules.File.{file_end}
 use Rattle.model.specs.laws.Laws.{All}
@@ -133,10 +133,10 @@ module _ {d : Dialect} {file : Bytes} {f : FileState} {i : ℕ} {s₀ e₀ k₀ 
   now_shown n c = shows d file Here.cells all_stand s₀ e₀ k₀ s e k m.long m.at_starts m.at_ends m.at_kinds n c
 
   pub record_counts : {start n : ℕ} {g : FileState} {o : ℕ} → v ≡ Completed start n g o → length Here.cells ≡ n
-  record_counts {start} {n} {g} {o} w = (on_record d none file [] Here _ (follows none []) start n g o (sym m.event ∙ w)).counts
+  record_counts {start} {n} {g} {o} w = (on_record d None file [] Here _ (follows None []) start n g o (sym m.event ∙ w)).counts
 
   pub last_counts : {start n : ℕ} → v ≡ LastRecord start n → length Here.cells ≡ n
-  last_counts {start} {n} w = (on_last d none file [] Here _ (follows none []) start n (sym m.event ∙ w)).counts
+  last_counts {start} {n} w = (on_last d None file [] Here _ (follows None []) start n (sym m.event ∙ w)).counts
 
   module _ (aim : Aim) (rs : List Rec) where
     abbrev Rest : Progress
@@ -146,7 +146,7 @@ module _ {d : Dialect} {file : Bytes} {f : FileState} {i : ℕ} {s₀ e₀ k₀ 
     next_record_lem :
         (r : Read) (g : FileState) (o m n w : ℕ) → r.done ≡ rs →
         Rest ≡ rest_of d (target_of aim) file (rs ++ (rec_of r Here.cells ∷ [])) g o →
-        record_fault d (target_of aim) rs Here.cells ≡ Sound → length rs + 1 ≡ m → length Here.cells ≡ n → n ≤ MAXCOLUMNS →
+        record_fault d (target_of aim) rs Here.cells ≡ Ok tt → length rs + 1 ≡ m → length Here.cells ≡ n → n ≤ MAXCOLUMNS →
         length (text_of aim rs) + length (text_next aim (is_empty rs) Here.cells) ≡ w → w ≤ MAXFILE → i < o → o ≤ length file →
         o ≤ MAXFILE → outer g ≡ true → NextRecordSound d aim file rs f i s e k (Record (cursor_of m n w o g))
     next_record_lem r g o m n w done rest fault counted c few text short onward inside under between =
@@ -174,14 +174,14 @@ module _ {d : Dialect} {file : Bytes} {f : FileState} {i : ℕ} {s₀ e₀ k₀ 
 
     -- the same place of reading, by the records that were read
     sound_rest :
-        (r : Read) (g : FileState) (o : ℕ) → r.done ≡ rs → record_fault d (target_of aim) rs Here.cells ≡ Sound →
+        (r : Read) (g : FileState) (o : ℕ) → r.done ≡ rs → record_fault d (target_of aim) rs Here.cells ≡ Ok tt →
         complete d (target_of aim) r Here.cells g o ≡ going (between_records (rs ++ (rec_of r Here.cells ∷ [])) g o)
     sound_rest r g o done fault =
         complete_sound d (target_of aim) r Here.cells g o (ap (λ (l : List Rec). record_fault d (target_of aim) l Here.cells) done ∙ fault)
         ∙ ap (λ (l : List Rec). going (between_records (l ++ (rec_of r Here.cells ∷ [])) g o)) done
 
     refused_record :
-        (r : Read) (start : ℕ) (x : Fault) → r.done ≡ rs → r.start ≡ start → record_fault d (target_of aim) rs Here.cells ≡ Faulty x →
+        (r : Read) (start : ℕ) (x : Fault) → r.done ≡ rs → r.start ≡ start → record_fault d (target_of aim) rs Here.cells ≡ Err x →
         Rest ≡ stopped x r → NextRecordSound d aim file rs f i s e k (Refused (report (number_of x) (suc (length rs)) (column_of x) start))
     refused_record r start x done starts fault rest =
         let q : report (number_of x) (suc (length rs)) (column_of x) r.start ≡ fault_report x r
@@ -192,7 +192,7 @@ module _ {d : Dialect} {file : Bytes} {f : FileState} {i : ℕ} {s₀ e₀ k₀ 
         subst (λ (t : Report). NextRecordSound d aim file rs f i s e k (Refused t)) (sym p) (refused x r rest)
 
     faulty_rest :
-        (r : Read) (g : FileState) (o : ℕ) (x : Fault) → r.done ≡ rs → record_fault d (target_of aim) rs Here.cells ≡ Faulty x →
+        (r : Read) (g : FileState) (o : ℕ) (x : Fault) → r.done ≡ rs → record_fault d (target_of aim) rs Here.cells ≡ Err x →
         complete d (target_of aim) r Here.cells g o ≡ stopped x r
     faulty_rest r g o x done fault =
         complete_faulty d (target_of aim) r Here.cells g o x

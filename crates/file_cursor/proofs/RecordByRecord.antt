@@ -4,7 +4,7 @@ use native.Mathlib.Numerals.{add-one}
 use native.Mathlib.Omega.{arith}
 use mathlib.Core.Path.{◌≡◌, refl, sym, ap, subst, ◌∙◌}
 use mathlib.Core.Bool.{Bool, true, false, ◌&&◌}
-use mathlib.Core.Option.{Option}
+use Rattle.std.specs.Prelude.{Option}
 use mathlib.Core.List.{List, [], ◌∷◌}
 use lib.ListN.{length, drop, length-drop}
 use lib.Seq.{drop-drop}
@@ -20,8 +20,8 @@ use Rattle.model.specs.declared.Target.{Target}
 use Rattle.model.specs.declared.FileState.{FileState}
 use Rattle.model.specs.declared.ByteRole.{ByteRole}
 use Rattle.model.specs.declared.ByteRole.TheVariants.{Outside, Passed, OfCell, Between, Tail, Ends}
-use Rattle.model.specs.declared.Step.{Step}
-use Rattle.model.specs.declared.Step.TheVariants.{To, Reject}
+use Rattle.model.specs.rules.Types.{Step}
+use Rattle.std.specs.Prelude.{Ok, Err}
 use Rattle.model.specs.declared.Ending.{Ending}
 use Rattle.model.specs.declared.Ending.TheVariants.{Clean, Final, Cut}
 use Rattle.model.specs.declared.Fault.{Fault}
@@ -58,7 +58,7 @@ module _ (d : Dialect) (target : Option Target) (file : Bytes) (rs : List Rec) w
   -- a byte within its record
   within_record :
       (r : Read) (b : ℕ) (f : FileState) (p : ByteRole) → ends_record p ≡ false →
-      move d target (redone rs r) b (To f p) ≡ going (redone rs (read_after d r b f p))
+      move d target (redone rs r) b (Ok (f, p)) ≡ going (redone rs (read_after d r b f p))
   unfolding move
   within_record r b f Outside e = rw (add-one r.offset)
   within_record r b f Passed e = rw (add-one r.offset)
@@ -72,8 +72,8 @@ module _ (d : Dialect) (target : Option Target) (file : Bytes) (rs : List Rec) w
   -- the byte that ends its record
   at_ending :
       (r : Read) (b : ℕ) (f : FileState) (k : Bool) (bs : Bytes) → bs ≡ drop (r.offset + 1) file →
-      ReadsAs d target file rs (stepped d r b (λ r'. next_record d r' bs) (To f (Ends k)))
-      (Rest (move d target (redone rs r) b (To f (Ends k))) bs)
+      ReadsAs d target file rs (stepped d r b (λ r'. next_record d r' bs) (Ok (f, Ends k)))
+      (Rest (move d target (redone rs r) b (Ok (f, Ends k))) bs)
   unfolding stepped move choose◌then◌else◌
   at_ending r b f true bs e =
       rw (e, ← add-one r.offset) (after_record (redone rs r) (closing d true r) f (r.offset + 1) refl)
@@ -89,13 +89,13 @@ module _ (d : Dialect) (target : Option Target) (file : Bytes) (rs : List Rec) w
       (r : Read) (b : ℕ) (bs : Bytes) → bs ≡ drop (r.offset + 1) file → r.offset + 1 + length bs ≡ length file → Ih bs → (s : Step) →
       ReadsAs d target file rs (stepped d r b (λ r'. next_record d r' bs) s) (Rest (move d target (redone rs r) b s) bs)
   unfolding stepped choose◌then◌else◌ move
-  on_byte r b bs e l ih (Reject x) = faulty (Byte x) r bs refl
-  on_byte r b bs e l ih (To f Outside) = rw (within_record r b f Outside refl) (ih (read_after d r b f Outside) e l)
-  on_byte r b bs e l ih (To f Passed) = rw (within_record r b f Passed refl) (ih (read_after d r b f Passed) e l)
-  on_byte r b bs e l ih (To f OfCell) = rw (within_record r b f OfCell refl) (ih (read_after d r b f OfCell) e l)
-  on_byte r b bs e l ih (To f (Between k)) = rw (within_record r b f (Between k) refl) (ih (read_after d r b f (Between k)) e l)
-  on_byte r b bs e l ih (To f (Tail k)) = rw (within_record r b f (Tail k) refl) (ih (read_after d r b f (Tail k)) e l)
-  on_byte r b bs e l ih (To f (Ends k)) = at_ending r b f k bs e
+  on_byte r b bs e l ih (Err x) = faulty (Byte x) r bs refl
+  on_byte r b bs e l ih (Ok (f, Outside)) = rw (within_record r b f Outside refl) (ih (read_after d r b f Outside) e l)
+  on_byte r b bs e l ih (Ok (f, Passed)) = rw (within_record r b f Passed refl) (ih (read_after d r b f Passed) e l)
+  on_byte r b bs e l ih (Ok (f, OfCell)) = rw (within_record r b f OfCell refl) (ih (read_after d r b f OfCell) e l)
+  on_byte r b bs e l ih (Ok (f, Between k)) = rw (within_record r b f (Between k) refl) (ih (read_after d r b f (Between k)) e l)
+  on_byte r b bs e l ih (Ok (f, Tail k)) = rw (within_record r b f (Tail k) refl) (ih (read_after d r b f (Tail k)) e l)
+  on_byte r b bs e l ih (Ok (f, Ends k)) = at_ending r b f k bs e
 
   by_limits :
       (r : Read) (b : ℕ) (bs : Bytes) → bs ≡ drop (r.offset + 1) file → r.offset + 1 + length bs ≡ length file → Ih bs →

@@ -22,11 +22,11 @@ use Rattle.model.specs.rules.Api.{slice}
 use Rattle.cell_scanner.proofs.Runs.{part_end}
 use Rattle.model.specs.declared.Dialect.{Dialect}
 use Rattle.model.specs.declared.Cell.TheVariants.{Fresh}
-use Rattle.model.specs.declared.CellCheck.TheVariants.{WholeCell}
+use Rattle.std.specs.Prelude.{Ok}
 use Rattle.model.specs.declared.FileState.{FileState}
 use Rattle.model.specs.declared.FileState.TheVariants.{Top, Begin, Ended, Bom1, Bom2, PlainBom1, PlainBom2, Comment, Blanks, ExpectCell, Inside, After, Cr}
 use Rattle.model.specs.declared.ByteRole.TheVariants.{Outside, Passed, OfCell, Between, Tail}
-use Rattle.model.specs.declared.Step.{Step}
+use Rattle.model.specs.rules.Types.{Step}
 use Rattle.model.specs.declared.Ending.{Ending}
 use Rattle.model.specs.declared.Ending.TheVariants.{Clean, Final, Cut}
 use Rattle.file_cursor.specs.Next.{Next, read_after, ended, stepped, next_record}
@@ -63,7 +63,7 @@ module _ (d : Dialect) (file : Bytes) where
   closed : (r : Read) (k : Bool) → Closes d (cell_at r.state) k → Standing r → All (LiesIn d file) (closing d k r)
   unfolding validate_cell
   closed r true w s =
-      let sound : validate_cell d r.raw ≡ WholeCell = runs_sound 0 s.runs w in
+      let sound : validate_cell d r.raw ≡ Ok tt = runs_sound 0 s.runs w in
       all_snoc s.cells
       (record {
         kind = ap (kind_of d) s.stands;

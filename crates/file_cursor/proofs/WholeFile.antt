@@ -4,7 +4,7 @@ use native.Mathlib.Numerals.{add-one}
 use native.Mathlib.Omega.{arith}
 use mathlib.Core.Path.{◌≡◌, refl, sym, ap, subst, ◌∙◌}
 use mathlib.Core.Bool.{Bool, true, false, ◌&&◌}
-use mathlib.Core.Option.{none}
+use Rattle.std.specs.Prelude.{None}
 use mathlib.Core.List.{List, [], ◌∷◌, map}
 use lib.ListN.{length, drop, length-append, length-map}
 use lib.Dec.{leb}
@@ -28,8 +28,8 @@ use Rattle.model.specs.declared.Cell.{Cell}
 use Rattle.model.specs.declared.FileState.{FileState}
 use Rattle.model.specs.declared.FileState.TheVariants.{Top, Begin, Ended, Bom1, Bom2, PlainBom1, PlainBom2, Comment, Blanks, ExpectCell, Inside, After, Cr}
 use Rattle.model.specs.declared.ByteRole.TheVariants.{Outside, Passed, OfCell, Between, Tail, Ends}
-use Rattle.model.specs.declared.Step.{Step}
-use Rattle.model.specs.declared.Step.TheVariants.{To, Reject}
+use Rattle.model.specs.rules.Types.{Step}
+use Rattle.std.specs.Prelude.{Ok, Err}
 use Rattle.model.specs.declared.Ending.{Ending}
 use Rattle.model.specs.declared.Ending.TheVariants.{Clean, Final, Cut}
 use Rattle.model.specs.declared.Fault.{Fault}
@@ -60,13 +60,13 @@ module _ (d : Dialect) where
       (s : Scan) (b : ℕ) (bs : Bytes) → Comes bs → (x : Step) →
       stepped d (read_of d [] s) b (λ r. next_record d r bs) x ≡ next_of (scan_step s b bs (λ s'. scan d MAXFILE s' bs) x)
   unfolding stepped scan_step choose◌then◌else◌
-  step_comes s b bs ih (Reject e) = refl
-  step_comes s b bs ih (To f Outside) = rw (add-one s.offset) (ih _)
-  step_comes s b bs ih (To f Passed) = rw (add-one s.offset) (ih _)
-  step_comes s b bs ih (To f OfCell) = rw (add-one s.offset, add-one s.size) (ih _)
-  step_comes s b bs ih (To f (Between k)) = rw (add-one s.offset, add-one s.size, values_closing d none [] k s) (ih _)
-  step_comes s b bs ih (To f (Tail k)) = rw (add-one s.offset, values_closing d none [] k s) (ih _)
-  step_comes s b bs ih (To f (Ends k)) = rw (add-one s.offset, values_closing d none [] k s)
+  step_comes s b bs ih (Err e) = refl
+  step_comes s b bs ih (Ok (f, Outside)) = rw (add-one s.offset) (ih _)
+  step_comes s b bs ih (Ok (f, Passed)) = rw (add-one s.offset) (ih _)
+  step_comes s b bs ih (Ok (f, OfCell)) = rw (add-one s.offset, add-one s.size) (ih _)
+  step_comes s b bs ih (Ok (f, Between k)) = rw (add-one s.offset, add-one s.size, values_closing d None [] k s) (ih _)
+  step_comes s b bs ih (Ok (f, Tail k)) = rw (add-one s.offset, values_closing d None [] k s) (ih _)
+  step_comes s b bs ih (Ok (f, Ends k)) = rw (add-one s.offset, values_closing d None [] k s)
 
   choose_comes :
       (s : Scan) (b : ℕ) (bs : Bytes) → Comes bs → (u v : Bool) (x : Step) →
@@ -136,7 +136,7 @@ module _ (d : Dialect) where
 
   closing_long : (s : Scan) → length (closing d true (read_of d [] s)) ≡ length s.cells + 1
   closing_long s =
-      ap length (values_closing d none [] true s) ∙ values_long (closing_raw true s)
+      ap length (values_closing d None [] true s) ∙ values_long (closing_raw true s)
       ∙ length-append s.cells (cell_here s ∷ [])
 
   end_event_lem : (s : Scan) (n : ℕ) (x : Ending) → s.offset ≡ n → (ended d (read_of d [] s) x).event ≡ end_event x (current_of s) n
@@ -171,7 +171,7 @@ module _ (d : Dialect) where
     unfolding store_if choose◌then◌else◌
     end_stored s Clean e = ap At (sym (none_left s (e refl)))
     end_stored s Final e =
-        ap (λ vs. stored_from room base (map φ vs) old) (values_closing d none [] true s)
+        ap (λ vs. stored_from room base (map φ vs) old) (values_closing d None [] true s)
         ∙ ap (λ xs. stored_from room base xs old) (of_values φ (closing_raw true s))
         ∙ sym (closing_written (λ c. φ (value_of d c)) room base (length s.cells) old true s refl)
     end_stored s Cut e = ap (λ xs. stored_from room base xs old) (of_values φ s.cells)

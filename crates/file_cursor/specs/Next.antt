@@ -10,8 +10,8 @@ use Rattle.model.specs.declared.Dialect.{Dialect}
 use Rattle.model.specs.declared.FileState.{FileState}
 use Rattle.model.specs.declared.ByteRole.{ByteRole}
 use Rattle.model.specs.declared.ByteRole.TheVariants.{Outside, Passed, OfCell, Between, Tail, Ends}
-use Rattle.model.specs.declared.Step.{Step}
-use Rattle.model.specs.declared.Step.TheVariants.{To, Reject}
+use Rattle.model.specs.rules.Types.{Step}
+use Rattle.std.specs.Prelude.{Ok, Err}
 use Rattle.model.specs.declared.Ending.{Ending}
 use Rattle.model.specs.declared.Ending.TheVariants.{Clean, Final, Cut}
 use Rattle.model.specs.declared.Fault.{Fault}
@@ -75,8 +75,8 @@ completed r vs f o = record { event = Completed r.start (length vs) f o; cells =
 
 -- the next byte b takes this step, and `rest` says what comes of reading after it
 unfoldable pub stepped : Dialect → Read → (b : ℕ) → (rest : Read → Next) → Step → Next
-stepped d r b rest (Reject e) = failed (Byte e) r
-stepped d r b rest (To f p) =
+stepped d r b rest (Err e) = failed (Byte e) r
+stepped d r b rest (Ok (f, p)) =
     choose ends_record p then completed r (closing d (closes_cell p) r) f (r.offset + 1) else rest (read_after d r b f p)
 
 -- the file ends here; between records there is no current cell

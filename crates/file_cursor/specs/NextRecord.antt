@@ -1,14 +1,14 @@
 -- The contract of the cursor in terms of reading: from a place between two records to the next such place, with the record between
 -- them; or to the file's end; or to a fault.
 use Rattle.std.specs.Prelude.{ℕ, suc, ◌+◌, ◌≤◌, ◌<◌, ◌≡◌, Bool, true, List, [], ◌∷◌, ◌++◌, length, take, drop}
-use Rattle.std.proofs.Math.Option.{Option, none, some}
+use Rattle.std.specs.Prelude.{Option, None, Some}
 use Rattle.model.specs.declared.Dialect.{Dialect}
 use Rattle.model.specs.declared.Target.{Target}
 use Rattle.model.specs.declared.FileState.{FileState}
 use Rattle.model.specs.declared.FileState.TheVariants.{Top}
 use Rattle.model.specs.declared.Fault.{Fault}
 use Rattle.model.specs.declared.Fault.TheVariants.{NoRecord}
-use Rattle.model.specs.declared.CheckResult.TheVariants.{Sound, Faulty}
+use Rattle.std.specs.Prelude.{Ok, Err}
 use Rattle.model.specs.rules.Base.{Bytes, is_empty}
 use Rattle.model.specs.rules.Dialect.{into}
 use Rattle.model.specs.rules.Text.{Value, record_text, table_text, ending}
@@ -29,8 +29,8 @@ use Rattle.file_cursor.specs.declared.NextRecord.TheVariants.{Record, End, Refus
 -- ---- what the records are read for
 
 abbrev pub target_of : Aim → Option Target
-target_of Reading = none
-target_of (Into t) = some (into t)
+target_of Reading = None
+target_of (Into t) = Some (into t)
 
 -- the text of these records in the target, and none where there is no target
 abbrev pub text_of : Aim → List Rec → Bytes
@@ -67,17 +67,17 @@ pub record After (aim : Aim) (c : Cursor) (rs : List Rec) : Type 0 where
 -- the check result of the record with these cells, and the length of its text if it is sound
 pub record CheckSound (d : Dialect) (aim : Aim) (c : Cursor) (vs : List Value) (r : TargetCheck) : Type 0 where
   pub verdict : (rs : List Rec) → After aim c rs → r.verdict ≡ record_fault d (target_of aim) rs vs
-  pub text : (rs : List Rec) → length rs ≡ c.done → r.verdict ≡ Sound → r.length ≡ length (text_next aim (is_empty rs) vs)
-  pub fits : r.verdict ≡ Sound → c.written + r.length ≤ MAXFILE
+  pub text : (rs : List Rec) → length rs ≡ c.done → r.verdict ≡ Ok tt → r.length ≡ length (text_next aim (is_empty rs) vs)
+  pub fits : r.verdict ≡ Ok tt → c.written + r.length ≤ MAXFILE
 
 -- the cursor's result for the record with these cells after the records rs, by the check result
 pub data RecordChecked (d : Dialect) (aim : Aim) (rs : List Rec) (vs : List Value) (start : ℕ) (f : FileState) (o : ℕ) : NextRecord → Type 0 where
   sound :
-      {m n w : ℕ} → record_fault d (target_of aim) rs vs ≡ Sound → length rs + 1 ≡ m → length vs ≡ n → n ≤ MAXCOLUMNS →
+      {m n w : ℕ} → record_fault d (target_of aim) rs vs ≡ Ok tt → length rs + 1 ≡ m → length vs ≡ n → n ≤ MAXCOLUMNS →
       length (text_of aim rs) + length (text_next aim (is_empty rs) vs) ≡ w → w ≤ MAXFILE →
       RecordChecked d aim rs vs start f o (Record (cursor_of m n w o f))
   faulty :
-      (e : Fault) → record_fault d (target_of aim) rs vs ≡ Faulty e →
+      (e : Fault) → record_fault d (target_of aim) rs vs ≡ Err e →
       RecordChecked d aim rs vs start f o (Refused (report (number_of e) (suc (length rs)) (column_of e) start))
 
 -- the cursor's result at the end of the file, at this offset after the records rs

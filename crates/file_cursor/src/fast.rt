@@ -16,7 +16,7 @@ ghost use Rattle.file_cursor.specs.FastNext.{FastCheckSound, FastNextSound};
 use crate::{Aim, Cursor};
 use cell_decoder::source::Source;
 use codes::{MAX_COLUMNS, MAX_FILE};
-use model::{CheckResult, Dialect, FileState};
+use model::{Dialect, FileState};
 use record_fast::FastScan;
 use record_target::TargetCheck;
 
@@ -44,15 +44,15 @@ fn check_record(
     requires fact { (cursor.done ≡ 0 → ⊥) × (cursor.written ≤ MAXFILE) }
     ensures { CheckSound d aim cursor (cells_in (File d) file.now starts.now ends.now kinds.now) result }
 {
-    if let CheckResult::Faulty(e) = record_check::data(cursor.columns, starts.len()) {
+    if let Err(e) = record_check::data(cursor.columns, starts.len()) {
         return TargetCheck {
-            verdict: CheckResult::Faulty(e),
+            verdict: Err(e),
             length: 0,
         };
     }
     match aim {
         Aim::Reading => TargetCheck {
-            verdict: CheckResult::Sound,
+            verdict: Ok(()),
             length: 0,
         },
         Aim::Into(t) => record_target::check_target(
@@ -105,8 +105,8 @@ fn finish_record(
     );
     let v = r.verdict;
     match v {
-        CheckResult::Faulty(_) => FastNext::Fallback,
-        CheckResult::Sound => FastNext::Record(
+        Err(_) => FastNext::Fallback,
+        Ok(()) => FastNext::Record(
             Cursor {
                 done: cursor.done + 1,
                 columns: cells,

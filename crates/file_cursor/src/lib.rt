@@ -18,7 +18,7 @@ ghost use Rattle.record_fast.specs.CellLists.{Long, SameLengths, Shows};
 use crate::scan::FileScan;
 use cell_decoder::source::Source;
 use codes::MAX_COLUMNS;
-use model::{CheckResult, Dialect, Fault, FileState, Report};
+use model::{Dialect, Fault, FileState, Report};
 use record_target::TargetCheck;
 
 pub mod fast;
@@ -150,14 +150,14 @@ fn finish_record(
     );
     let v = r.verdict;
     match v {
-        CheckResult::Sound => NextRecord::Record(Cursor {
+        Ok(()) => NextRecord::Record(Cursor {
             done: cursor.done + 1,
             columns: cells,
             written: cursor.written + r.length,
             offset: next,
             state,
         }),
-        CheckResult::Faulty(e) => NextRecord::Refused(codes::record_report(
+        Err(e) => NextRecord::Refused(codes::record_report(
             e,
             cursor.done + 1,
             start,

@@ -1,7 +1,7 @@
 -- What the results of the inner functions mean, in the definition's terms.
 use Rattle.std.specs.Prelude.{ℕ, false}
 use Rattle.model.specs.declared.Dialect.{Dialect}
-use Rattle.model.specs.declared.Step.{Step}
+use Rattle.model.specs.rules.Types.{Step}
 use Rattle.model.specs.rules.File.{after_cell, in_cell}
 use Rattle.file_lexer.specs.declared.Dispatched.{Dispatched}
 use Rattle.file_lexer.specs.declared.Dispatched.TheVariants.{Is, InCell, AfterCell}

@@ -12,7 +12,7 @@ ghost use Rattle.model.specs.rules.File.{begin_record, begin_file, commented, fi
 ghost use Rattle.file_lexer.specs.Dispatched.{step_of};
 
 use crate::separators::is_blank;
-use model::{Advance, ByteFault, ByteRole, Cell, Char, Dialect, FileState, Inner, Lead, Step};
+use model::{ByteFault, ByteRole, Cell, Char, Dialect, FileState, Inner, Lead};
 
 pub mod counted;
 pub mod separators;
@@ -20,7 +20,7 @@ pub mod separators;
 // The step of a byte, or the cell that decides it.
 #[derive(Clone, Copy)]
 pub enum Dispatched {
-    Is(Step),
+    Is(Result<(FileState, ByteRole), ByteFault>),
     InCell(Cell),
     AfterCell,
 }
@@ -31,22 +31,20 @@ fn begin_record(d: Dialect, b: u8) -> Dispatched
     match d {
         Dialect::Csvj => {
             if is_blank(b) {
-                return Dispatched::Is(Step::To(
-                    FileState::Blanks,
-                    ByteRole::Between { closes: false },
-                ));
+                return Dispatched::Is(Ok((FileState::Blanks,
+                    ByteRole::Between { closes: false })));
             }
             if b == 0x0A {
-                return Dispatched::Is(Step::To(FileState::Begin, ByteRole::Ends { closes: false }));
+                return Dispatched::Is(Ok((FileState::Begin, ByteRole::Ends { closes: false })));
             }
             if b == 0x0D {
-                return Dispatched::Is(Step::To(FileState::Cr, ByteRole::Tail { closes: false }));
+                return Dispatched::Is(Ok((FileState::Cr, ByteRole::Tail { closes: false })));
             }
             Dispatched::InCell(Cell::Fresh)
         }
         Dialect::Tdif => {
             if b == 0x23 {
-                return Dispatched::Is(Step::To(FileState::Comment(Char::Whole), ByteRole::Outside));
+                return Dispatched::Is(Ok((FileState::Comment(Char::Whole), ByteRole::Outside)));
             }
             Dispatched::InCell(Cell::Fresh)
         }
@@ -60,39 +58,39 @@ fn begin_file(d: Dialect, b: u8) -> Dispatched
     match d {
         Dialect::Csvj => {
             if b == 0xEF {
-                return Dispatched::Is(Step::To(FileState::Bom1, ByteRole::Outside));
+                return Dispatched::Is(Ok((FileState::Bom1, ByteRole::Outside)));
             }
             begin_record(Dialect::Csvj, b)
         }
         Dialect::Tdif => begin_record(Dialect::Tdif, b),
         Dialect::CsvPlus(s) => {
             if b == 0xEF {
-                return Dispatched::Is(Step::To(FileState::PlainBom1, ByteRole::OfCell));
+                return Dispatched::Is(Ok((FileState::PlainBom1, ByteRole::OfCell)));
             }
             begin_record(Dialect::CsvPlus(s), b)
         }
     }
 }
 
-fn comment_text(t: Char, b: u8) -> Step
+fn comment_text(t: Char, b: u8) -> Result<(FileState, ByteRole), ByteFault>
     ensures { result ≡ commented (char_step t b) }
 {
     match utf8::char_step(t, b) {
-        Advance::On(next) => Step::To(FileState::Comment(next), ByteRole::Outside),
-        Advance::Broken => Step::Reject(ByteFault::Encoding),
+        Some(next) => Ok((FileState::Comment(next), ByteRole::Outside)),
+        None => Err(ByteFault::Encoding),
     }
 }
 
-fn in_comment(t: Char, b: u8) -> Step
+fn in_comment(t: Char, b: u8) -> Result<(FileState, ByteRole), ByteFault>
     ensures { result ≡ file_step Dialect.Tdif (FileState.Comment t) b }
 {
     match t {
         Char::Whole => {
             if b == 0x0A {
-                return Step::To(FileState::Begin, ByteRole::Passed);
+                return Ok((FileState::Begin, ByteRole::Passed));
             }
             if b == 0x0D {
-                return Step::To(FileState::Ended, ByteRole::Passed);
+                return Ok((FileState::Ended, ByteRole::Passed));
             }
             comment_text(Char::Whole, b)
         }
@@ -104,34 +102,34 @@ fn after_ended(d: Dialect, b: u8) -> Dispatched
     ensures { step_of d result b ≡ file_step d FileState.Ended b }
 {
     if b == 0x0A {
-        return Dispatched::Is(Step::To(FileState::Begin, ByteRole::Passed));
+        return Dispatched::Is(Ok((FileState::Begin, ByteRole::Passed)));
     }
     begin_record(d, b)
 }
 
-fn in_bom1(b: u8) -> Step
+fn in_bom1(b: u8) -> Result<(FileState, ByteRole), ByteFault>
     ensures { result ≡ file_step Dialect.Csvj FileState.Bom1 b }
 {
     if b == 0xBB {
-        return Step::To(FileState::Bom2, ByteRole::Outside);
+        return Ok((FileState::Bom2, ByteRole::Outside));
     }
-    Step::Reject(ByteFault::Syntax)
+    Err(ByteFault::Syntax)
 }
 
-fn in_bom2(b: u8) -> Step
+fn in_bom2(b: u8) -> Result<(FileState, ByteRole), ByteFault>
     ensures { result ≡ file_step Dialect.Csvj FileState.Bom2 b }
 {
     if b == 0xBF {
-        return Step::To(FileState::Begin, ByteRole::Passed);
+        return Ok((FileState::Begin, ByteRole::Passed));
     }
-    Step::Reject(ByteFault::Syntax)
+    Err(ByteFault::Syntax)
 }
 
 fn in_plain_bom1(d: Dialect, b: u8) -> Dispatched
     ensures { step_of d result b ≡ file_step d FileState.PlainBom1 b }
 {
     if b == 0xBB {
-        return Dispatched::Is(Step::To(FileState::PlainBom2, ByteRole::OfCell));
+        return Dispatched::Is(Ok((FileState::PlainBom2, ByteRole::OfCell)));
     }
     Dispatched::InCell(Cell::Plain(Char::Within(Inner::Second(Lead::EeToEf))))
 }
@@ -140,7 +138,7 @@ fn in_plain_bom2(d: Dialect, b: u8) -> Dispatched
     ensures { step_of d result b ≡ file_step d FileState.PlainBom2 b }
 {
     if b == 0xBF {
-        return Dispatched::Is(Step::Reject(ByteFault::Syntax));
+        return Dispatched::Is(Err(ByteFault::Syntax));
     }
     Dispatched::InCell(Cell::Plain(Char::Within(Inner::Last)))
 }
@@ -149,18 +147,18 @@ fn expect_cell(d: Dialect, b: u8) -> Dispatched
     ensures { step_of d result b ≡ file_step d FileState.ExpectCell b }
 {
     if is_blank(b) {
-        return Dispatched::Is(Step::To(FileState::ExpectCell, ByteRole::Between { closes: false }));
+        return Dispatched::Is(Ok((FileState::ExpectCell, ByteRole::Between { closes: false })));
     }
     Dispatched::InCell(Cell::Fresh)
 }
 
-fn after_cr(b: u8) -> Step
+fn after_cr(b: u8) -> Result<(FileState, ByteRole), ByteFault>
     ensures { result ≡ file_step Dialect.Csvj FileState.Cr b }
 {
     if b == 0x0A {
-        return Step::To(FileState::Begin, ByteRole::Ends { closes: false });
+        return Ok((FileState::Begin, ByteRole::Ends { closes: false }));
     }
-    Step::Reject(ByteFault::Syntax)
+    Err(ByteFault::Syntax)
 }
 
 // The step of a byte, up to the cell that decides it.

@@ -3,7 +3,7 @@
 ghost use Rattle.std.specs.Prelude.{◌≡◌};
 ghost use Rattle.model.specs.rules.File.{is_blank, after_cell};
 
-use model::{ByteFault, ByteRole, Cell, Dialect, FileState, Settings, Step};
+use model::{ByteFault, ByteRole, Cell, Dialect, FileState, Settings};
 
 pub fn is_blank(b: u8) -> bool
     ensures { result ≡ is_blank b }
@@ -14,56 +14,56 @@ pub fn is_blank(b: u8) -> bool
     b == 0x09
 }
 
-fn csvj_after(closes: bool, b: u8) -> Step
+fn csvj_after(closes: bool, b: u8) -> Result<(FileState, ByteRole), ByteFault>
     ensures { result ≡ after_cell Dialect.Csvj closes b }
 {
     if is_blank(b) {
-        return Step::To(FileState::After, ByteRole::Between { closes });
+        return Ok((FileState::After, ByteRole::Between { closes }));
     }
     if b == 0x2C {
-        return Step::To(FileState::ExpectCell, ByteRole::Between { closes });
+        return Ok((FileState::ExpectCell, ByteRole::Between { closes }));
     }
     if b == 0x0A {
-        return Step::To(FileState::Begin, ByteRole::Ends { closes });
+        return Ok((FileState::Begin, ByteRole::Ends { closes }));
     }
     if b == 0x0D {
-        return Step::To(FileState::Cr, ByteRole::Tail { closes });
+        return Ok((FileState::Cr, ByteRole::Tail { closes }));
     }
-    Step::Reject(ByteFault::Syntax)
+    Err(ByteFault::Syntax)
 }
 
-fn tdif_after(closes: bool, b: u8) -> Step
+fn tdif_after(closes: bool, b: u8) -> Result<(FileState, ByteRole), ByteFault>
     ensures { result ≡ after_cell Dialect.Tdif closes b }
 {
     if b == 0x2C {
-        return Step::To(FileState::Inside(Cell::Fresh), ByteRole::Between { closes });
+        return Ok((FileState::Inside(Cell::Fresh), ByteRole::Between { closes }));
     }
     if b == 0x0A {
-        return Step::To(FileState::Begin, ByteRole::Ends { closes });
+        return Ok((FileState::Begin, ByteRole::Ends { closes }));
     }
     if b == 0x0D {
-        return Step::To(FileState::Ended, ByteRole::Ends { closes });
+        return Ok((FileState::Ended, ByteRole::Ends { closes }));
     }
-    Step::Reject(ByteFault::Syntax)
+    Err(ByteFault::Syntax)
 }
 
-fn plus_after(s: Settings, closes: bool, b: u8) -> Step
+fn plus_after(s: Settings, closes: bool, b: u8) -> Result<(FileState, ByteRole), ByteFault>
     ensures { result ≡ after_cell (Dialect.CsvPlus s) closes b }
 {
     if b == cell_lexer::delimiter_of(Dialect::CsvPlus(s)) {
-        return Step::To(FileState::Inside(Cell::Fresh), ByteRole::Between { closes });
+        return Ok((FileState::Inside(Cell::Fresh), ByteRole::Between { closes }));
     }
     if b == 0x0A {
-        return Step::To(FileState::Begin, ByteRole::Ends { closes });
+        return Ok((FileState::Begin, ByteRole::Ends { closes }));
     }
     if b == 0x0D {
-        return Step::To(FileState::Cr, ByteRole::Tail { closes });
+        return Ok((FileState::Cr, ByteRole::Tail { closes }));
     }
-    Step::Reject(ByteFault::Syntax)
+    Err(ByteFault::Syntax)
 }
 
 // The byte after a cell that ends before it (`closes`), or after blanks that follow a cell of CSVJ.
-pub fn after_cell(d: Dialect, closes: bool, b: u8) -> Step
+pub fn after_cell(d: Dialect, closes: bool, b: u8) -> Result<(FileState, ByteRole), ByteFault>
     ensures { result ≡ after_cell d closes b }
 {
     match d {

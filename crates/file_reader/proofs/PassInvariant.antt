@@ -3,7 +3,7 @@ use Prim.Native.Nat.{ℕ, suc, ◌+◌, ◌≤◌, ◌<◌}
 use native.Mathlib.Omega.{arith}
 use mathlib.Core.Path.{◌≡◌, refl, sym, ap, subst, ◌∙◌}
 use mathlib.Core.Bool.{Bool, true, false}
-use mathlib.Core.Option.{none}
+use Rattle.std.specs.Prelude.{None}
 use mathlib.Core.List.{List, [], ◌∷◌, ◌++◌, map, map-append, append_assoc, append-nil}
 use lib.ListN.{length, drop, length-append, length-map}
 use Rattle.model.specs.declared.Dialect.{Dialect}
@@ -11,8 +11,8 @@ use Rattle.model.specs.declared.FileState.{FileState}
 use Rattle.model.specs.declared.FileState.TheVariants.{Begin}
 use Rattle.model.specs.declared.Fault.{Fault}
 use Rattle.model.specs.declared.Report.{Report}
-use Rattle.model.specs.declared.CheckResult.{CheckResult}
-use Rattle.model.specs.declared.CheckResult.TheVariants.{Sound, Faulty}
+use Rattle.model.specs.rules.Types.{CheckResult}
+use Rattle.std.specs.Prelude.{Ok, Err}
 use Rattle.model.specs.rules.Base.{Bytes, concat}
 use Rattle.model.specs.rules.Text.{Value}
 use Rattle.model.specs.rules.Report.{report, number_of, column_of, MAXFILE}
@@ -137,7 +137,7 @@ module _ (call : Call) where
     pub ds : List Rec
     pub cells : concat (rows ds) ≡ vs
     pub count : length ds ≡ records
-    pub rest : rest_of d none file (h ∷ []) first from ≡ rest_of d none file (h ∷ ds) f i
+    pub rest : rest_of d None file (h ∷ []) first from ≡ rest_of d None file (h ∷ ds) f i
 
   pub record Going (f : FileState) (i cells records : ℕ) (s e k : List ℕ) : Type 0 where
     pub vs : List Value
@@ -179,8 +179,8 @@ module _ (call : Call) where
           more_held room cells y.vs Here.cells s₀ e₀ k₀ s e k s' e' k' y.counted y.lists
           found.1.0 found.1.1.0 found.1.1.1.0
 
-      next_follows : (h : Rec) (ds : List Rec) → ReadsAs d none file (h ∷ ds) Here (rest_of d none file (h ∷ ds) f i)
-      next_follows h ds = reads_on d none file (h ∷ ds) f i y.inside
+      next_follows : (h : Rec) (ds : List Rec) → ReadsAs d None file (h ∷ ds) Here (rest_of d None file (h ∷ ds) f i)
+      next_follows h ds = reads_on d None file (h ∷ ds) f i y.inside
 
       number : (r : Read) (h : Rec) (ds : List Rec) → r.done ≡ h ∷ ds → length ds ≡ records → length r.done ≡ suc records
       number r h ds q c = ap length q ∙ ap suc c
@@ -210,11 +210,11 @@ module _ (call : Call) where
           pub done : r.done ≡ rs
           pub starts : r.start ≡ start
           pub counts : length Here.cells ≡ n
-          pub stops : (x : Fault) → record_fault d none r.done Here.cells ≡ Faulty x → p ≡ stopped x r
+          pub stops : (x : Fault) → record_fault d None r.done Here.cells ≡ Err x → p ≡ stopped x r
 
-        at_data : (rs : List Rec) (p : Progress) → ReadsAs d none file rs Here p → (l : Bool) → Is l → AtData rs p
+        at_data : (rs : List Rec) (p : Progress) → ReadsAs d None file rs Here p → (l : Bool) → Is l → AtData rs p
         at_data rs p t false z =
-            let at = on_record d none file rs Here p t start n g o (complete_here z) in
+            let at = on_record d None file rs Here p t start n g o (complete_here z) in
             record {
               r = at.r;
               done = at.done;
@@ -222,18 +222,18 @@ module _ (call : Call) where
               counts = at.counts;
               stops =
                   λ x q.
-                  at.rest ∙ ap (λ (b : Progress). read_end d none (read_from d none b (drop o file)))
-                  (complete_faulty d none at.r Here.cells g o x q)
-                  ∙ sym (stays d none x at.r (drop o file));
+                  at.rest ∙ ap (λ (b : Progress). read_end d None (read_from d None b (drop o file)))
+                  (complete_faulty d None at.r Here.cells g o x q)
+                  ∙ sym (stays d None x at.r (drop o file));
             }
         at_data rs p t true z =
-            let at = on_last d none file rs Here p t start n (last_here z) in
+            let at = on_last d None file rs Here p t start n (last_here z) in
             record {
               r = at.r;
               done = at.done;
               starts = at.starts;
               counts = at.counts;
-              stops = λ x q. at.rest ∙ complete_faulty d none at.r Here.cells Begin (length file) x q;
+              stops = λ x q. at.rest ∙ complete_faulty d None at.r Here.cells Begin (length file) x q;
             }
 
         few_of : (l : Bool) → Is l → cells + n ≤ MAXFILE + 1
@@ -254,7 +254,7 @@ module _ (call : Call) where
         few_here = few_of last here
 
         counts_here : length Here.cells ≡ n
-        counts_here = (at_data [] _ (reads_on d none file [] f i y.inside) last here).counts
+        counts_here = (at_data [] _ (reads_on d None file [] f i y.inside) last here).counts
 
         validated_here : u ≡ data_fault columns Here.cells
         validated_here = j Here.cells counts_here
@@ -265,35 +265,35 @@ module _ (call : Call) where
         -- what its check says of reading after the records of which the first is the header h
         fault_of :
             (h : Rec) (ds : List Rec) (r : Read) → length h.cells ≡ columns → r.done ≡ h ∷ ds →
-            record_fault d none r.done Here.cells ≡ u
+            record_fault d None r.done Here.cells ≡ u
         fault_of h ds r q a =
-            ap (λ (l : List Rec). record_fault d none l Here.cells) a ∙ data_fault_lem d h ds Here.cells
+            ap (λ (l : List Rec). record_fault d None l Here.cells) a ∙ data_fault_lem d h ds Here.cells
             ∙ ap (λ (m : ℕ). data_fault m Here.cells) q ∙ sym validated_here
 
         sound_record :
-            (h : Rec) (ds : List Rec) (r : Read) (g' : FileState) (o' : ℕ) → length h.cells ≡ columns → r.done ≡ h ∷ ds → u ≡ Sound →
-            complete d none r Here.cells g' o' ≡ going (between_records (h ∷ (ds ++ (rec_of r Here.cells ∷ []))) g' o')
+            (h : Rec) (ds : List Rec) (r : Read) (g' : FileState) (o' : ℕ) → length h.cells ≡ columns → r.done ≡ h ∷ ds → u ≡ Ok tt →
+            complete d None r Here.cells g' o' ≡ going (between_records (h ∷ (ds ++ (rec_of r Here.cells ∷ []))) g' o')
         sound_record h ds r g' o' q a z =
-            complete_sound d none r Here.cells g' o' (fault_of h ds r q a ∙ z)
+            complete_sound d None r Here.cells g' o' (fault_of h ds r q a ∙ z)
             ∙ ap (λ (l : List Rec). going (between_records (l ++ (rec_of r Here.cells ∷ [])) g' o')) a
 
         pub record_refused :
-            (x : Fault) → u ≡ Faulty x → (t : Report) → t ≡ report (number_of x) (records + 2) (column_of x) start →
+            (x : Fault) → u ≡ Err x → (t : Report) → t ≡ report (number_of x) (records + 2) (column_of x) start →
             PassSound d file from first columns room s₀ e₀ k₀ (Refused t) s' e' k'
         record_refused x z t te =
             record { vs = y.vs ++ Here.cells; lists = now_held; outcome = λ h q. out h q (y.turn h q); few = tt }
           where
             out :
                 (h : Rec) → length h.cells ≡ columns → Turned h y.vs f i records →
-                PassOutcome h (y.vs ++ Here.cells) (rest_of d none file (h ∷ []) first from) (Refused t)
+                PassOutcome h (y.vs ++ Here.cells) (rest_of d None file (h ∷ []) first from) (Refused t)
             out h q a =
-                let at : AtData (h ∷ a.ds) (rest_of d none file (h ∷ a.ds) f i) = at_data (h ∷ a.ds) _ (next_follows h a.ds) last here in
-                let fault : record_fault d none at.r.done Here.cells ≡ Faulty x = fault_of h a.ds at.r q at.done ∙ z in
-                let p : rest_of d none file (h ∷ []) first from ≡ stopped x at.r = a.rest ∙ at.stops x fault in
+                let at : AtData (h ∷ a.ds) (rest_of d None file (h ∷ a.ds) f i) = at_data (h ∷ a.ds) _ (next_follows h a.ds) last here in
+                let fault : record_fault d None at.r.done Here.cells ≡ Err x = fault_of h a.ds at.r q at.done ∙ z in
+                let p : rest_of d None file (h ∷ []) first from ≡ stopped x at.r = a.rest ∙ at.stops x fault in
                 let b : t ≡ fault_report x at.r
                 = te ∙ ap (λ (m : ℕ). report (number_of x) m (column_of x) start) (sym two_more)
                 ∙ ap (λ (m : ℕ). report (number_of x) (suc (suc records)) (column_of x) m) (sym at.starts)
-                ∙ report_start d none at.r Here.cells x (suc records) fault (number at.r h a.ds at.done a.count) in
+                ∙ report_start d None at.r Here.cells x (suc records) fault (number at.r h a.ds at.done a.count) in
                 subst (λ (m : Progress). PassOutcome h (y.vs ++ Here.cells) m (Refused t)) (sym p)
                 (subst (λ (m : Report). PassOutcome h (y.vs ++ Here.cells) (stopped x at.r) (Refused m)) (sym b) (refused x at.r))
 
@@ -302,7 +302,7 @@ module _ (call : Call) where
         pub fits_here : last ≡ false → (i < o) × (o ≤ length file) × (o ≤ MAXFILE) × (cells + n ≤ o)
         fits_here z = subst (EventInBounds (length file) i cells) (complete_here (subst Is z here)) found.1.1.1.1
 
-        pub record_on : last ≡ false → u ≡ Sound → Going g o (cells + n) (records + 1) s' e' k'
+        pub record_on : last ≡ false → u ≡ Ok tt → Going g o (cells + n) (records + 1) s' e' k'
         record_on lz z =
             let m = fits_here lz in
             let a : i < o = m.0 in
@@ -323,7 +323,7 @@ module _ (call : Call) where
           where
             turned : (h : Rec) → length h.cells ≡ columns → Turned h y.vs f i records → Turned h (y.vs ++ Here.cells) g o (records + 1)
             turned h t x =
-                let at = on_record d none file (h ∷ x.ds) Here _ (next_follows h x.ds) start n g o (complete_here (subst Is lz here)) in
+                let at = on_record d None file (h ∷ x.ds) Here _ (next_follows h x.ds) start n g o (complete_here (subst Is lz here)) in
                 let rec : Rec = rec_of at.r Here.cells in
                 record {
                   ds = x.ds ++ (rec ∷ []);
@@ -331,24 +331,24 @@ module _ (call : Call) where
                   count = length_snoc x.ds rec ∙ ap (λ (m : ℕ). m + 1) x.count;
                   rest =
                       x.rest ∙ at.rest
-                      ∙ ap (λ (p : Progress). read_end d none (read_from d none p (drop o file)))
+                      ∙ ap (λ (p : Progress). read_end d None (read_from d None p (drop o file)))
                       (sound_record h x.ds at.r g o t at.done z);
                 }
 
         pub last_accepted :
-            last ≡ true → u ≡ Sound →
+            last ≡ true → u ≡ Ok tt →
             PassSound d file from first columns room s₀ e₀ k₀ (Accepted (records + 1) (cells + n)) s' e' k'
         last_accepted lz z =
             record { vs = y.vs ++ Here.cells; lists = now_held; outcome = λ h q. out h q (y.turn h q); few = few_here }
           where
             out :
                 (h : Rec) → length h.cells ≡ columns → Turned h y.vs f i records →
-                PassOutcome h (y.vs ++ Here.cells) (rest_of d none file (h ∷ []) first from) (Accepted (records + 1) (cells + n))
+                PassOutcome h (y.vs ++ Here.cells) (rest_of d None file (h ∷ []) first from) (Accepted (records + 1) (cells + n))
             out h q a =
-                let at = on_last d none file (h ∷ a.ds) Here _ (next_follows h a.ds) start n (last_here (subst Is lz here)) in
+                let at = on_last d None file (h ∷ a.ds) Here _ (next_follows h a.ds) start n (last_here (subst Is lz here)) in
                 let rec : Rec = rec_of at.r Here.cells in
                 let ds : List Rec = a.ds ++ (rec ∷ []) in
-                let p : rest_of d none file (h ∷ []) first from ≡ going (between_records (h ∷ ds) Begin (length file))
+                let p : rest_of d None file (h ∷ []) first from ≡ going (between_records (h ∷ ds) Begin (length file))
                 = a.rest ∙ at.rest ∙ sound_record h a.ds at.r Begin (length file) q at.done z in
                 let c : length ds ≡ records + 1 = length_snoc a.ds rec ∙ ap (λ (m : ℕ). m + 1) a.count in
                 let t : concat (rows ds) ≡ y.vs ++ Here.cells = rows_snoc a.ds rec ∙ ap (λ (l : List Value). l ++ Here.cells) a.cells in
@@ -364,11 +364,11 @@ module _ (call : Call) where
         where
           out :
               (h : Rec) → length h.cells ≡ columns → Turned h y.vs f i records →
-              PassOutcome h (y.vs ++ Here.cells) (rest_of d none file (h ∷ []) first from) (Refused t)
+              PassOutcome h (y.vs ++ Here.cells) (rest_of d None file (h ∷ []) first from) (Refused t)
           out h q a =
-              let at = on_fault d none file (h ∷ a.ds) Here _ (next_follows h a.ds) x o
+              let at = on_fault d None file (h ∷ a.ds) Here _ (next_follows h a.ds) x o
               (is_fault (length file) Here.event x o (sym w ∙ found.0)) in
-              let p : rest_of d none file (h ∷ []) first from ≡ stopped x at.r = a.rest ∙ at.rest in
+              let p : rest_of d None file (h ∷ []) first from ≡ stopped x at.r = a.rest ∙ at.rest in
               let z : t ≡ fault_report x at.r
               = te ∙ ap (λ (m : ℕ). report (number_of x) m (column_of x) o) (sym two_more)
               ∙ ap (λ (m : ℕ). report (number_of x) (suc (suc records)) (column_of x) m) (sym at.place)
@@ -384,11 +384,11 @@ module _ (call : Call) where
 
           out :
               (h : Rec) → length h.cells ≡ columns → Turned h y.vs f i records →
-              PassOutcome h (y.vs ++ Here.cells) (rest_of d none file (h ∷ []) first from) (Accepted records cells)
+              PassOutcome h (y.vs ++ Here.cells) (rest_of d None file (h ∷ []) first from) (Accepted records cells)
           out h q a =
-              let at = on_finish d none file (h ∷ a.ds) Here _ (next_follows h a.ds) _
+              let at = on_finish d None file (h ∷ a.ds) Here _ (next_follows h a.ds) _
               (is_end_lem (length file) Here.event (sym w ∙ found.0)) in
-              let p : rest_of d none file (h ∷ []) first from ≡ going at.r = a.rest ∙ at.rest in
+              let p : rest_of d None file (h ∷ []) first from ≡ going at.r = a.rest ∙ at.rest in
               let n : Here.cells ≡ [] = at.none_left in
               let t : y.vs ++ Here.cells ≡ y.vs = ap (λ (l : List Value). y.vs ++ l) n ∙ append-nil y.vs in
               let c : length (y.vs ++ Here.cells) ≡ cells = ap length t ∙ y.counted in

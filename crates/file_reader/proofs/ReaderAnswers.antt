@@ -3,7 +3,7 @@ use Prim.Native.Nat.{ℕ, ◌+◌, ◌-◌, ◌≤◌, ◌<◌}
 use native.Mathlib.Omega.{arith}
 use mathlib.Core.Path.{◌≡◌, refl, sym, ap, subst, ◌∙◌}
 use mathlib.Core.Bool.{true, false}
-use mathlib.Core.Option.{none, some}
+use Rattle.std.specs.Prelude.{None, Some}
 use mathlib.Core.List.{List, [], ◌∷◌, ◌++◌, map, map-append, append-nil, append_assoc}
 use lib.ListN.{length, take, drop, length-append, length-map, length-drop, drop_of_length-le}
 use lib.Seq.{take-append_seam, drop-append_seam, drop-drop}
@@ -39,6 +39,7 @@ use Rattle.file_cursor.specs.declared.NextRecord as visitor
 use Rattle.file_cursor.specs.FileOutcome.{rest_of}
 use Rattle.file_cursor.specs.NextRecord.{at_start, After, NextRecordSound}
 use Rattle.file_cursor.proofs.Traversal.{nothing_yet, whole_rest, came, at_end, at_fault}
+use Rattle.std.specs.Prelude.{min}
 
 -- the answer, and the lists after it
 pub record Answered (a : api.Answer) (r : Answer) (s₀ e₀ k₀ s e k : List ℕ) : Type 0 where
@@ -63,7 +64,7 @@ records_answer h ds r room e = ap (λ (l : List Rec). api.answered l (concat (ro
 
 -- more cells than room
 pub crowded :
-    (d : Dialect) (file : Bytes) (room n : ℕ) (h : Rec) (ds : List Rec) (r : Read) → read_file d none file ≡ going r → r.done ≡ h ∷ ds →
+    (d : Dialect) (file : Bytes) (room n : ℕ) (h : Rec) (ds : List Rec) (r : Read) → read_file d None file ≡ going r → r.done ≡ h ∷ ds →
     length (concat (rows (h ∷ ds))) ≡ n → room < n → answer_in d file room ≡ api.no_answer (refusal 10)
 unfolding choose◌then◌else◌
 crowded d file room n h ds r p q c l =
@@ -72,7 +73,7 @@ crowded d file room n h ds r p q c l =
 
 -- room for all cells
 pub roomy :
-    (d : Dialect) (file : Bytes) (room n : ℕ) (h : Rec) (ds : List Rec) (r : Read) → read_file d none file ≡ going r → r.done ≡ h ∷ ds →
+    (d : Dialect) (file : Bytes) (room n : ℕ) (h : Rec) (ds : List Rec) (r : Read) → read_file d None file ≡ going r → r.done ≡ h ∷ ds →
     length (concat (rows (h ∷ ds))) ≡ n → n ≤ room →
     answer_in d file room ≡ record { report = accepted; columns = length h.cells; records = length ds; cells = concat (rows (h ∷ ds)) }
 unfolding choose◌then◌else◌
@@ -186,21 +187,21 @@ module _ {d : Dialect} {file : Bytes} {n : ℕ} {f : FileState} {next : ℕ} {s�
 module _ (room : ℕ) {d : Dialect} {file : Bytes} {n : ℕ} {f : FileState} {next : ℕ} (head : HeaderRead d file n f next) {m : ℕ}
     {s₀ e₀ k₀ s₁ e₁ k₁ : List ℕ} {p : PassResult} (y : PassSound d file next f n m s₀ e₀ k₀ p s₁ e₁ k₁)
     (kept : (s₁ ≡ s₀) × (e₁ ≡ e₀) × (k₁ ≡ k₀)) where
-  outcome : PassOutcome head.h y.vs (rest_of d none file (head.h ∷ []) f next) p
+  outcome : PassOutcome head.h y.vs (rest_of d None file (head.h ∷ []) f next) p
   outcome = y.outcome head.h head.count
 
   pub data_refused : (t : Report) → p ≡ Refused t → (r : Answer) → r ≡ reader_answer (api.no_answer t) → Answered (answer_in d file room) r s₀ e₀ k₀ s₁ e₁ k₁
   data_refused t q r re =
-      let o : PassOutcome head.h y.vs (rest_of d none file (head.h ∷ []) f next) (Refused t)
-      = subst (λ (x : PassResult). PassOutcome head.h y.vs (rest_of d none file (head.h ∷ []) f next) x) q outcome in
+      let o : PassOutcome head.h y.vs (rest_of d None file (head.h ∷ []) f next) (Refused t)
+      = subst (λ (x : PassResult). PassOutcome head.h y.vs (rest_of d None file (head.h ∷ []) f next) x) q outcome in
       refusing (answer_in d file room) t r s₀ e₀ k₀ s₁ e₁ k₁
       (ap (λ (g : Progress). api.read_answer g room) head.rest ∙ (refused_by o).answer room) re kept.0 kept.1 kept.2
 
   module _ {records c : ℕ} (q : p ≡ Accepted records c) where
-    by : AcceptedBy head.h y.vs (rest_of d none file (head.h ∷ []) f next) records c
-    by = accepted_by (subst (λ (x : PassResult). PassOutcome head.h y.vs (rest_of d none file (head.h ∷ []) f next) x) q outcome)
+    by : AcceptedBy head.h y.vs (rest_of d None file (head.h ∷ []) f next) records c
+    by = accepted_by (subst (λ (x : PassResult). PassOutcome head.h y.vs (rest_of d None file (head.h ∷ []) f next) x) q outcome)
 
-    all : read_file d none file ≡ going by.r
+    all : read_file d None file ≡ going by.r
     all = head.rest ∙ by.same
 
     total : length (concat (rows (head.h ∷ by.ds))) ≡ n + c
@@ -225,7 +226,7 @@ module _ (room : ℕ) {d : Dialect} {file : Bytes} {n : ℕ} {f : FileState} {ne
         (z : PassSound d file next f n (room - n) (PartFrom n s₂) (PartFrom n e₂) (PartFrom n k₂) p₂ s₃ e₃ k₃) where
       again : concat (rows by.ds) ≡ z.vs
       again =
-          same_cells head.h z.vs (rest_of d none file (head.h ∷ []) f next) p₂ by.r by.ds (z.outcome head.h head.count)
+          same_cells head.h z.vs (rest_of d None file (head.h ∷ []) f next) p₂ by.r by.ds (z.outcome head.h head.count)
           by.same by.done
 
       filled :
@@ -303,14 +304,14 @@ module _ {d : Dialect} {file : Bytes} {s e k : List ℕ} {o : visitor.NextRecord
 
 -- the room is that of the shortest list
 pub shortest :
-    (a b c room inner : ℕ) → inner ≡ api.least b c → room ≡ api.least a inner →
-    (room ≡ api.least a (api.least b c)) × ((room ≤ a) × (room ≤ b) × (room ≤ c))
+    (a b c room inner : ℕ) → inner ≡ min b c → room ≡ min a inner →
+    (room ≡ min a (min b c)) × ((room ≤ a) × (room ≤ b) × (room ≤ c))
 shortest a b c room inner e f =
-    let g : room ≡ api.least a (api.least b c) = f ∙ ap (api.least a) e in
-    let x : api.least a (api.least b c) ≤ a = least_first a (api.least b c) in
-    let y : api.least a (api.least b c) ≤ api.least b c = least_second a (api.least b c) in
-    let z : api.least b c ≤ b = least_first b c in
-    let w : api.least b c ≤ c = least_second b c in
+    let g : room ≡ min a (min b c) = f ∙ ap (min a) e in
+    let x : min a (min b c) ≤ a = least_first a (min b c) in
+    let y : min a (min b c) ≤ min b c = least_second a (min b c) in
+    let z : min b c ≤ b = least_first b c in
+    let w : min b c ≤ c = least_second b c in
     (g, (omega arith, omega arith, omega arith))
 
 -- ---- the call
@@ -326,7 +327,7 @@ Fills a s₀ e₀ k₀ r s e k =
     (r ≡ reader_answer a) × ((s ≡ over (starts_of a.cells) s₀) × ((e ≡ over (ends_of a.cells) e₀) × (k ≡ over (kinds_of a.cells) k₀)))
 
 abbrev Room : (s₀ e₀ k₀ : List ℕ) → ℕ
-Room s₀ e₀ k₀ = api.least (length s₀) (api.least (length e₀) (length k₀))
+Room s₀ e₀ k₀ = min (length s₀) (min (length e₀) (length k₀))
 
 by_answer :
     (n : ℕ) (file s₀ e₀ k₀ : List ℕ) (a : api.Answer) (r : Answer) (s e k : List ℕ) → api.reader n file (Room s₀ e₀ k₀) ≡ a →
@@ -335,13 +336,13 @@ unfolding api.read_call
 by_answer n file s₀ e₀ k₀ a r s e k q t = subst (λ (b : api.Answer). Fills b s₀ e₀ k₀ r s e k) (sym q) t
 
 pub known :
-    (n : ℕ) (d : Dialect) → some d ≡ dialect_of n → (file s₀ e₀ k₀ : List ℕ) (r : Answer) (s e k : List ℕ) →
+    (n : ℕ) (d : Dialect) → Some d ≡ dialect_of n → (file s₀ e₀ k₀ : List ℕ) (r : Answer) (s e k : List ℕ) →
     Fills (answer_in d file (Room s₀ e₀ k₀)) s₀ e₀ k₀ r s e k → Calls n file s₀ e₀ k₀ r s e k
 unfolding api.reader
 known n d q file s₀ e₀ k₀ r s e k t = by_answer n file s₀ e₀ k₀ (answer_in d file (Room s₀ e₀ k₀)) r s e k (rw (← q, api.reader)) t
 
 pub unknown :
-    (n : ℕ) → none ≡ dialect_of n → (file s₀ e₀ k₀ : List ℕ) (t : Report) (r : Answer) → t ≡ refusal 11 → r ≡ reader_answer (api.no_answer t) →
+    (n : ℕ) → None ≡ dialect_of n → (file s₀ e₀ k₀ : List ℕ) (t : Report) (r : Answer) → t ≡ refusal 11 → r ≡ reader_answer (api.no_answer t) →
     Calls n file s₀ e₀ k₀ r s₀ e₀ k₀
 unfolding api.reader
 unknown n q file s₀ e₀ k₀ t r te re =

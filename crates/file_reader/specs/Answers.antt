@@ -1,6 +1,6 @@
 -- The reader's answer, as the definition of the call has it.
 use Rattle.std.specs.Prelude.{ℕ, length}
-use Rattle.std.proofs.Math.Option.{none}
+use Rattle.std.specs.Prelude.{None}
 use Rattle.model.specs.declared.Dialect.{Dialect}
 use Rattle.model.specs.rules.Base.{Bytes}
 use Rattle.model.specs.rules.Records.{read_file}
@@ -17,4 +17,4 @@ reader_answer a = record { report = a.report; columns = a.columns; records = a.r
 
 -- the answer for a file of this dialect
 abbrev pub answer_in : Dialect → Bytes → (room : ℕ) → api.Answer
-answer_in d file room = api.read_answer (read_file d none file) room
+answer_in d file room = api.read_answer (read_file d None file) room

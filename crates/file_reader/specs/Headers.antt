@@ -1,6 +1,6 @@
 -- The header of a file, and the place after it.
 use Rattle.std.specs.Prelude.{ℕ, ◌≤◌, ◌≡◌, [], ◌∷◌, length, drop}
-use Rattle.std.proofs.Math.Option.{none}
+use Rattle.std.specs.Prelude.{None}
 use Rattle.model.specs.declared.Dialect.{Dialect}
 use Rattle.model.specs.declared.FileState.{FileState}
 use Rattle.model.specs.declared.FileState.TheVariants.{Top}
@@ -19,7 +19,7 @@ pub record HeaderRead (d : Dialect) (file : Bytes) (columns : ℕ) (f : FileStat
   pub h : Rec
   pub first : h.cells ≡ (first_of d file).cells
   pub count : length h.cells ≡ columns
-  pub rest : read_file d none file ≡ rest_of d none file (h ∷ []) f next
+  pub rest : read_file d None file ≡ rest_of d None file (h ∷ []) f next
   pub few : columns ≤ MAXCOLUMNS
   pub inside : next ≤ length file
   pub under : next ≤ MAXFILE

@@ -1,6 +1,6 @@
 -- The contract of a pass over the data records, in terms of reading.
 use Rattle.std.specs.Prelude.{ℕ, ◌+◌, ◌≤◌, ◌≡◌, true, false, List, [], ◌∷◌, length}
-use Rattle.std.proofs.Math.Option.{none}
+use Rattle.std.specs.Prelude.{None}
 use Rattle.model.specs.declared.Dialect.{Dialect}
 use Rattle.model.specs.declared.FileState.{FileState}
 use Rattle.model.specs.declared.FileState.TheVariants.{Begin}
@@ -47,5 +47,5 @@ pub record PassSound (d : Dialect) (file : Bytes) (from : ℕ) (f : FileState) (
     (p : PassResult) (starts ends kinds : List ℕ) : Type 0 where
   pub vs : List Value
   pub lists : Holds room vs starts₀ ends₀ kinds₀ starts ends kinds
-  pub outcome : (h : Rec) → length h.cells ≡ columns → PassOutcome h vs (rest_of d none file (h ∷ []) f from) p
+  pub outcome : (h : Rec) → length h.cells ≡ columns → PassOutcome h vs (rest_of d None file (h ∷ []) f from) p
   pub few : Few p

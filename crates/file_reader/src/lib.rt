@@ -7,12 +7,13 @@
 
 ghost use Rattle.std.specs.Prelude.{◌≡◌, ◌≤◌, length};
 ghost use Rattle.model.specs.rules.Base.{over};
-ghost use Rattle.model.specs.rules.Api.{no_answer, least, starts_of, ends_of, kinds_of, read_call};
+ghost use Rattle.std.specs.Prelude.{min};
+ghost use Rattle.model.specs.rules.Api.{no_answer, starts_of, ends_of, kinds_of, read_call};
 ghost use Rattle.file_reader.specs.Answers.{call_answer, reader_answer, answer_in};
 ghost use Rattle.file_reader.specs.Headers.{HeaderRead};
 
 use crate::pass::PassResult;
-use codes::{MAX_COLUMNS, NamedDialect};
+use codes::{MAX_COLUMNS};
 use file_cursor::{Aim, NextRecord};
 use model::{Dialect, FileState, Report};
 
@@ -94,12 +95,12 @@ pub fn read_in(
     ends: &mut [usize],
     kinds: &mut [u8],
 ) -> Answer
-    ensures value { result ≡ reader_answer (answer_in d file.now (least (length starts.old) (least (length ends.old) (length kinds.old)))) }
-    ensures starts_after { starts.new ≡ over (starts_of (answer_in d file.now (least (length starts.old) (least (length ends.old) (length kinds.old)))).cells) starts.old }
-    ensures ends_after { ends.new ≡ over (ends_of (answer_in d file.now (least (length starts.old) (least (length ends.old) (length kinds.old)))).cells) ends.old }
-    ensures kinds_after { kinds.new ≡ over (kinds_of (answer_in d file.now (least (length starts.old) (least (length ends.old) (length kinds.old)))).cells) kinds.old }
+    ensures value { result ≡ reader_answer (answer_in d file.now (min (length starts.old) (min (length ends.old) (length kinds.old)))) }
+    ensures starts_after { starts.new ≡ over (starts_of (answer_in d file.now (min (length starts.old) (min (length ends.old) (length kinds.old)))).cells) starts.old }
+    ensures ends_after { ends.new ≡ over (ends_of (answer_in d file.now (min (length starts.old) (min (length ends.old) (length kinds.old)))).cells) ends.old }
+    ensures kinds_after { kinds.new ≡ over (kinds_of (answer_in d file.now (min (length starts.old) (min (length ends.old) (length kinds.old)))).cells) kinds.old }
 {
-    let room = codes::min_of(starts.len(), codes::min_of(ends.len(), kinds.len()));
+    let room = starts.len().min(ends.len().min(kinds.len()));
     let mut header_starts = [0usize; MAX_COLUMNS];
     let mut header_ends = [0usize; MAX_COLUMNS];
     let mut header_kinds = [0u8; MAX_COLUMNS];
@@ -138,8 +139,8 @@ pub fn read(
     ensures leaves_ends { ends.new ≡ (read_call dialect file.now starts.old ends.old kinds.old).ends }
     ensures leaves_kinds { kinds.new ≡ (read_call dialect file.now starts.old ends.old kinds.old).kinds }
 {
-    match codes::dialect_of(dialect) {
-        NamedDialect::Known(d) => read_in(d, file, starts, ends, kinds),
-        NamedDialect::Unknown => refused(codes::call_report(codes::WRONG_CALL)),
+    match Dialect::try_from(dialect) {
+        Ok(d) => read_in(d, file, starts, ends, kinds),
+        Err(_) => refused(codes::call_report(codes::WRONG_CALL)),
     }
 }

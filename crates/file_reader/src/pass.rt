@@ -11,7 +11,7 @@ ghost use Rattle.file_reader.specs.Passes.{PassSound, data_scan};
 
 use codes::MAX_FILE;
 use file_cursor::scan::FileScan;
-use model::{CheckResult, Dialect, Fault, FileState, Report};
+use model::{Dialect, Fault, FileState, Report};
 use record_fast::FastScan;
 
 #[derive(Clone, Copy)]
@@ -135,7 +135,7 @@ pub fn data_records(
                 next,
                 last,
             } => match record_check::data(columns, n) {
-                CheckResult::Sound => {
+                Ok(()) => {
                     cells += n;
                     records += 1;
                     if last {
@@ -144,7 +144,7 @@ pub fn data_records(
                     state = f;
                     i = next;
                 }
-                CheckResult::Faulty(e) => {
+                Err(e) => {
                     return PassResult::Refused(codes::record_report(e, records + 2, start));
                 }
             },

@@ -5,8 +5,8 @@ use native.Mathlib.Omega.{arith}
 use mathlib.Core.Path.{◌≡◌, refl, sym, ap, ap₂, ◌∙◌}
 use mathlib.Core.Logic.{◌↔◌}
 use mathlib.Core.Bool.{Bool, true, false}
-use mathlib.Core.Option.{none}
-use mathlib.Core.Option as option
+use Rattle.std.specs.Prelude.{None}
+use Rattle.core.specs.declared.option.Option.TheVariants as option
 use mathlib.Core.List.{List, [], ◌∷◌, ◌++◌, map}
 use lib.ListN.{length, length-append}
 use lib.Dec.{ltb}
@@ -69,7 +69,7 @@ some_lines (lines_derived v k) = some
 -- ---- an acceptable file is accepted
 
 pub data ReadAs (d : Dialect) (xs : Bytes) (ls : List (Line Derived)) : Type 0 where
-  read_as : (end : Read) → read_file d none xs ≡ going end → Each (ShowsRecord xs) end.done ls → ReadAs d xs ls
+  read_as : (end : Read) → read_file d None xs ≡ going end → Each (ShowsRecord xs) end.done ls → ReadAs d xs ls
 
 pub acceptable_read : (d : Dialect) (xs : Bytes) (ls : List (Line Derived)) → Acceptable d xs ls → ReadAs d xs ls
 unfolding read_file read_bytes nothing_read
@@ -105,7 +105,7 @@ pub data AcceptedAs (d : Dialect) (xs : Bytes) (end : Read) : Type 0 where
 no_lines : {A : Type 0} → Some [] → A
 no_lines = elim [ ]
 
-pub read_acceptable : (d : Dialect) (xs : Bytes) (end : Read) → read_file d none xs ≡ going end → AcceptedAs d xs end
+pub read_acceptable : (d : Dialect) (xs : Bytes) (end : Read) → read_file d None xs ≡ going end → AcceptedAs d xs end
 unfolding read_file read_bytes nothing_read
 read_acceptable d xs end e = go (accepted_comes d xs end xs nothing_read [] [] [] [] [] (begins d xs) refl e)
   where
@@ -154,25 +154,25 @@ accepted_going (stopped x r) e =
     absurd (omega arith)
 
 -- demand 2's acceptance by the grammar: a file is accepted exactly when it is derived and the limits and the record checks hold
-pub acceptance : (d : Dialect) (xs : Bytes) → (report_of (read_file d none xs) ≡ accepted) ↔ ((ls : List (Line Derived)) × Acceptable d xs ls)
+pub acceptance : (d : Dialect) (xs : Bytes) → (report_of (read_file d None xs) ≡ accepted) ↔ ((ls : List (Line Derived)) × Acceptable d xs ls)
 acceptance d xs = (only, suffices)
   where
-    only : report_of (read_file d none xs) ≡ accepted → (ls : List (Line Derived)) × Acceptable d xs ls
-    only e = let r = accepted_going (read_file d none xs) e in go (read_acceptable d xs r.0 r.1)
+    only : report_of (read_file d None xs) ≡ accepted → (ls : List (Line Derived)) × Acceptable d xs ls
+    only e = let r = accepted_going (read_file d None xs) e in go (read_acceptable d xs r.0 r.1)
       where
         go : {end : Read} → AcceptedAs d xs end → (ls : List (Line Derived)) × Acceptable d xs ls
         go (accepted_as ls a k) = (ls, a)
 
-    suffices : (ls : List (Line Derived)) × Acceptable d xs ls → report_of (read_file d none xs) ≡ accepted
+    suffices : (ls : List (Line Derived)) × Acceptable d xs ls → report_of (read_file d None xs) ≡ accepted
     suffices a = go (acceptable_read d xs a.0 a.1)
       where
-        go : {ls : List (Line Derived)} → ReadAs d xs ls → report_of (read_file d none xs) ≡ accepted
+        go : {ls : List (Line Derived)} → ReadAs d xs ls → report_of (read_file d None xs) ≡ accepted
         go (read_as end e k) = ap report_of e
 
 -- and the reader's records are those of every derivation: cells in order, with their kinds and contents, and each span is the raw
 -- cell
 pub accepted_records :
-    (d : Dialect) (xs : Bytes) (ls : List (Line Derived)) → Derives d xs ls → (r : Read) → read_file d none xs ≡ going r →
+    (d : Dialect) (xs : Bytes) (ls : List (Line Derived)) → Derives d xs ls → (r : Read) → read_file d None xs ≡ going r →
     Each (ShowsRecord xs) r.done ls
 accepted_records d xs ls k r e = go (read_acceptable d xs r e)
   where
@@ -215,11 +215,11 @@ has_room vs room (each_cons s k) h = rw (le-ltb room (length vs) h)
 
 -- the reader reports acceptance of a dialect's file exactly when it is acceptable and its cells have room in the lent lists
 pub reader_acceptance :
-    (n : ℕ) (d : Dialect) (xs : Bytes) (room : ℕ) → dialect_of n ≡ option.some d →
+    (n : ℕ) (d : Dialect) (xs : Bytes) (room : ℕ) → dialect_of n ≡ option.Some d →
     ((reader n xs room).report ≡ accepted) ↔ ((ls : List (Line Derived)) × Acceptable d xs ls × (cell_count ls ≤ room))
 unfolding reader
 reader_acceptance n d xs room dialect =
-    (λ e. only (read_file d none xs) refl (rw (dialect, reader) at e), λ a. suffices a.2 (acceptable_read d xs a.0 a.1))
+    (λ e. only (read_file d None xs) refl (rw (dialect, reader) at e), λ a. suffices a.2 (acceptable_read d xs a.0 a.1))
   where
     fits :
         {end : Read} → AcceptedAs d xs end → (answered end.done (concat (rows end.done)) room).report ≡ accepted →
@@ -228,7 +228,7 @@ reader_acceptance n d xs room dialect =
         (ls, a, rw (count_cells k) at (roomy (concat (rows end.done)) room k (some_lines (file_derived d xs ls a.derived)) e))
 
     only :
-        (p : Progress) → read_file d none xs ≡ p → (read_answer p room).report ≡ accepted →
+        (p : Progress) → read_file d None xs ≡ p → (read_answer p room).report ≡ accepted →
         (ls : List (Line Derived)) × Acceptable d xs ls × (cell_count ls ≤ room)
     only (going r) q e = fits (read_acceptable d xs r q) e
     only (stopped x r) q e = let z = accepted_going (stopped x r) e in stopped_going z.1

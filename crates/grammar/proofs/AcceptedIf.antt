@@ -3,12 +3,12 @@ use Prim.Native.Nat.{ℕ, suc, ◌+◌, ◌≤◌, ◌<◌}
 use native.Mathlib.Omega.{arith}
 use mathlib.Core.Path.{◌≡◌, refl, sym, ap, ◌∙◌}
 use mathlib.Core.Bool.{true, false, and-false}
-use mathlib.Core.Option.{none}
+use Rattle.std.specs.Prelude.{None}
 use mathlib.Core.List.{List, [], ◌∷◌, ◌++◌, append_assoc, append-nil}
 use lib.ListN.{length, length-append}
 use lib.Dec.{leb}
 use borrow.Author.Tests.{lt-leb}
-use Rattle.grammar.specs.rfc.Types.{Dialect, FileState, Begin, OfCell, Outside, Passed, Between, Tail, Ends, Step, To, Clean, Final, Sound}
+use Rattle.grammar.specs.rfc.Types.{Dialect, FileState, Begin, OfCell, Outside, Passed, Between, Tail, Ends, Step, Ok, Clean, Final}
 use Rattle.model.specs.rules.Base.{Bytes, choose◌then◌else◌}
 use Rattle.model.specs.rules.File.{file_step, file_end, counts}
 use Rattle.model.specs.rules.Text.{Value}
@@ -51,14 +51,14 @@ module _ (d : Dialect) (r : Read) (b : ℕ) where
   unfolding record_full
   break_free e = rw e (and-false (leb MAXRECORD r.size))
 
-  free_byte : (s : Step) → r.offset < MAXFILE → record_full r b ≡ false → file_step d r.state b ≡ s → read_byte d none r b ≡ move d none r b s
+  free_byte : (s : Step) → r.offset < MAXFILE → record_full r b ≡ false → file_step d r.state b ≡ s → read_byte d None r b ≡ move d None r b s
   unfolding read_byte choose◌then◌else◌
   free_byte s h k e = rw (file_free h, k, e)
 
 module _ (d : Dialect) (file : Bytes) (total : List (Line Derived)) (limit : length file ≤ MAXFILE) (has_record : Some total) where
   -- the reader accepts what is left, and its records are those of the whole file
   pub data Accepted (r : Read) (xs : Bytes) : Type 0 where
-    accepted : (end : Read) → read_end d none (read_from d none (going r) xs) ≡ going end → Each (ShowsRecord file) end.done total → Accepted r xs
+    accepted : (end : Read) → read_end d None (read_from d None (going r) xs) ≡ going end → Each (ShowsRecord file) end.done total → Accepted r xs
 
   -- a reading state, and what is left is within the limits and passes the checks
   pub record Ready (r : Read) (xs : Bytes) (ls : List (Line Bytes)) (seen : Bytes) (pre : List (Line Derived)) (text raw : Bytes)
@@ -74,7 +74,7 @@ module _ (d : Dialect) (file : Bytes) (total : List (Line Derived)) (limit : len
       (r : Read) (seen : Bytes) (pre : List (Line Derived)) (text raw : Bytes) (cells : List Derived) → r.state ≡ f →
       Ready r xs ls seen pre text raw cells → Accepted r xs
 
-  next_accepted : (r n : Read) (b : ℕ) {bs : Bytes} → read_byte d none r b ≡ going n → Accepted n bs → Accepted r (b ∷ bs)
+  next_accepted : (r n : Read) (b : ℕ) {bs : Bytes} → read_byte d None r b ≡ going n → Accepted n bs → Accepted r (b ∷ bs)
   unfolding read_from
   next_accepted r n b e (accepted end q k) = accepted end (rw e q) k
 
@@ -102,18 +102,18 @@ module _ (d : Dialect) (file : Bytes) (total : List (Line Derived)) (limit : len
       offset_free : r.offset < MAXFILE
       offset_free = let o : r.offset ≡ length seen = y.stands.offset in let h : suc (length seen) ≤ MAXFILE = has_room in omega arith
 
-      counted_byte : (s : Step) → file_step d f b ≡ s → length text < MAXRECORD → read_byte d none r b ≡ move d none r b s
+      counted_byte : (s : Step) → file_step d f b ≡ s → length text < MAXRECORD → read_byte d None r b ≡ move d None r b s
       counted_byte s e h =
           let z : r.size ≡ length text = y.stands.size in
           free_byte d r b s offset_free (size_free d r b (omega arith)) (at_step s e)
 
-      uncounted_byte : (s : Step) → file_step d f b ≡ s → counts r.state b ≡ false → read_byte d none r b ≡ move d none r b s
+      uncounted_byte : (s : Step) → file_step d f b ≡ s → counts r.state b ≡ false → read_byte d None r b ≡ move d None r b s
       uncounted_byte s e c = free_byte d r b s offset_free (break_free d r b c) (at_step s e)
 
     -- where nothing is pending afterwards
     rest_goes :
         (s : Step) (start : ℕ) {ls : List (Line Bytes)} {text raw : Bytes} {cells : List Derived} → file_step d f b ≡ s →
-        move d none r b s ≡ going (record {
+        move d None r b s ≡ going (record {
           done = r.done;
           state = h;
           offset = suc r.offset;
@@ -149,8 +149,8 @@ module _ (d : Dialect) (file : Bytes) (total : List (Line Derived)) (limit : len
     -- where the record continues, with `text'` read of it and these cells complete
     record_goes :
         (s : Step) (size : ℕ) (vs : List Value) (text' : Bytes) {ls ls' : List (Line Bytes)} {text raw : Bytes} {cells cells' : List Derived} →
-        read_byte d none r b ≡ move d none r b s →
-        move d none r b s ≡ going (record {
+        read_byte d None r b ≡ move d None r b s →
+        move d None r b s ≡ going (record {
           done = r.done;
           state = h;
           offset = suc r.offset;
@@ -187,14 +187,14 @@ module _ (d : Dialect) (file : Bytes) (total : List (Line Derived)) (limit : len
     -- where the record is complete with these cells
     complete_goes :
         (s : Step) (vs : List Value) {ls ls' : List (Line Bytes)} {text raw : Bytes} {cells cells' : List Derived} →
-        read_byte d none r b ≡ move d none r b s → move d none r b s ≡ complete d none r vs h (suc r.offset) → Goes h bs ls' →
+        read_byte d None r b ≡ move d None r b s → move d None r b s ≡ complete d None r vs h (suc r.offset) → Goes h bs ls' →
         Ready r (b ∷ bs) ls seen pre text raw cells → Each (ShowsCell file) vs cells' → stage_of d h ≡ at_rest → Fit 0 ls' →
         pre ++ joined d text raw cells ls ≡ (pre ++ (line text cells' ∷ [])) ++ joined d [] [] [] ls' →
         LineSound d pre cells' → ChecksFrom d (pre ++ (line text cells' ∷ [])) (joined d [] [] [] ls') → Accepted r (b ∷ bs)
     unfolding complete
     complete_goes s vs {text} {cells'} e m k y c g f q l a =
         let next : Read = between_records (r.done ++ (record { start = r.start; size = r.size; cells = vs } ∷ [])) h (suc r.offset) in
-        let v : record_fault d none r.done vs ≡ Sound = record_sound_checked d y.stands.done c l in
+        let v : record_fault d None r.done vs ≡ Ok tt = record_sound_checked d y.stands.done c l in
         next_accepted r next b (e ∙ m ∙ ap (validated r next) v)
         (k next (seen ++ (b ∷ [])) (pre ++ (line text cells' ∷ [])) [] [] [] refl
         (record {
@@ -210,20 +210,20 @@ module _ (d : Dialect) (file : Bytes) (total : List (Line Derived)) (limit : len
   -- ---- each part
 
   module _ (f h : FileState) (b : ℕ) (bs : Bytes) where
-    after_outside : (ls : List (Line Bytes)) → file_step d f b ≡ To h Outside → Goes h bs ls → Goes f (b ∷ bs) ls
+    after_outside : (ls : List (Line Bytes)) → file_step d f b ≡ Ok (h, Outside) → Goes h bs ls → Goes f (b ∷ bs) ls
     unfolding move
     after_outside ls e k r seen pre text raw cells p y =
-        rest_goes f h b bs r seen pre p (To h Outside) r.start e refl k y
-        (moved_outside (read_transition f h b bs r seen pre p (To h Outside) e) y.stands.tidy)
+        rest_goes f h b bs r seen pre p (Ok (h, Outside)) r.start e refl k y
+        (moved_outside (read_transition f h b bs r seen pre p (Ok (h, Outside)) e) y.stands.tidy)
 
-    after_passed : (ls : List (Line Bytes)) → file_step d f b ≡ To h Passed → Goes h bs ls → Goes f (b ∷ bs) ls
+    after_passed : (ls : List (Line Bytes)) → file_step d f b ≡ Ok (h, Passed) → Goes h bs ls → Goes f (b ∷ bs) ls
     unfolding move
     after_passed ls e k r seen pre text raw cells p y =
-        rest_goes f h b bs r seen pre p (To h Passed) (suc r.offset) e refl k y
-        (moved_passed (read_transition f h b bs r seen pre p (To h Passed) e) y.stands.tidy)
+        rest_goes f h b bs r seen pre p (Ok (h, Passed)) (suc r.offset) e refl k y
+        (moved_passed (read_transition f h b bs r seen pre p (Ok (h, Passed)) e) y.stands.tidy)
 
     module _ (t : Bytes) (cs : List Bytes) (ls : List (Line Bytes)) where
-      after_of_cell : (c : Bytes) → file_step d f b ≡ To h OfCell → Goes h bs (line t (c ∷ cs) ∷ ls) → Goes f (b ∷ bs) (line (b ∷ t) ((b ∷ c) ∷ cs) ∷ ls)
+      after_of_cell : (c : Bytes) → file_step d f b ≡ Ok (h, OfCell) → Goes h bs (line t (c ∷ cs) ∷ ls) → Goes f (b ∷ bs) (line (b ∷ t) ((b ∷ c) ∷ cs) ∷ ls)
       unfolding move
       after_of_cell c e k r seen pre text raw cells p y = go y.fit
         where
@@ -244,7 +244,7 @@ module _ (d : Dialect) (file : Bytes) (total : List (Line Derived)) (limit : len
           go (fit_line x m) =
               let q = joined_of_cell d text raw cells b t cs ls c in
               let l : length (text ++ (b ∷ [])) ≡ suc (length text) = length_snoc text b in
-              next_accepted r next b (counted_byte f h b bs r seen pre p y (To h OfCell) e (omega arith))
+              next_accepted r next b (counted_byte f h b bs r seen pre p y (Ok (h, OfCell)) e (omega arith))
               (k next (seen ++ (b ∷ [])) pre (text ++ (b ∷ [])) (raw ++ (b ∷ [])) cells refl
               (record {
                 stands =
@@ -256,10 +256,10 @@ module _ (d : Dialect) (file : Bytes) (total : List (Line Derived)) (limit : len
                 sum = y.sum ∙ ap (λ l. pre ++ l) q;
               }))
 
-      after_between : file_step d f b ≡ To h (Between false) → Goes h bs (line t cs ∷ ls) → Goes f (b ∷ bs) (line (b ∷ t) cs ∷ ls)
+      after_between : file_step d f b ≡ Ok (h, Between false) → Goes h bs (line t cs ∷ ls) → Goes f (b ∷ bs) (line (b ∷ t) cs ∷ ls)
       unfolding move
       after_between e k r seen pre text raw cells p y =
-          go y y.fit (moved_between (read_transition f h b bs r seen pre p (To h (Between false)) e) y.stands.tidy)
+          go y y.fit (moved_between (read_transition f h b bs r seen pre p (Ok (h, Between false)) e) y.stands.tidy)
         where
           go :
               {raw : Bytes} → Ready r (b ∷ bs) (line (b ∷ t) cs ∷ ls) seen pre text raw cells → Fit (length text) (line (b ∷ t) cs ∷ ls) →
@@ -267,11 +267,11 @@ module _ (d : Dialect) (file : Bytes) (total : List (Line Derived)) (limit : len
           go y (fit_line x m) (parted c g) =
               let l : length (text ++ (b ∷ [])) ≡ suc (length text) = length_snoc text b in
               let z : r.size ≡ length text = y.stands.size in
-              record_goes f h b bs r seen pre p (To h (Between false)) (suc r.size) r.cells (text ++ (b ∷ []))
-              (counted_byte f h b bs r seen pre p y (To h (Between false)) e (omega arith)) refl k y (ap suc z ∙ sym l) (omega arith) y.stands.complete g
+              record_goes f h b bs r seen pre p (Ok (h, Between false)) (suc r.size) r.cells (text ++ (b ∷ []))
+              (counted_byte f h b bs r seen pre p y (Ok (h, Between false)) e (omega arith)) refl k y (ap suc z ∙ sym l) (omega arith) y.stands.complete g
               (fit_line (omega arith) m) (joined_between d text [] cells b t cs ls)
 
-      after_between_closing : file_step d f b ≡ To h (Between true) → Goes h bs (line t cs ∷ ls) → Goes f (b ∷ bs) (line (b ∷ t) ([] ∷ cs) ∷ ls)
+      after_between_closing : file_step d f b ≡ Ok (h, Between true) → Goes h bs (line t cs ∷ ls) → Goes f (b ∷ bs) (line (b ∷ t) ([] ∷ cs) ∷ ls)
       unfolding move
       after_between_closing e k r seen pre text raw cells p y = go y.fit
         where
@@ -279,38 +279,38 @@ module _ (d : Dialect) (file : Bytes) (total : List (Line Derived)) (limit : len
           go (fit_line x m) =
               let l : length (text ++ (b ∷ [])) ≡ suc (length text) = length_snoc text b in
               let z : r.size ≡ length text = y.stands.size in
-              record_goes f h b bs r seen pre p (To h (Between true)) (suc r.size) (closing d true r) (text ++ (b ∷ []))
-              (counted_byte f h b bs r seen pre p y (To h (Between true)) e (omega arith)) refl k y (ap suc z ∙ sym l) (omega arith)
+              record_goes f h b bs r seen pre p (Ok (h, Between true)) (suc r.size) (closing d true r) (text ++ (b ∷ []))
+              (counted_byte f h b bs r seen pre p y (Ok (h, Between true)) e (omega arith)) refl k y (ap suc z ∙ sym l) (omega arith)
               (closes_now y.stands (b ∷ bs) y.place) (between_stage (its_transition e))
               (fit_line (omega arith) m) (joined_between_closing d text raw cells b t cs ls)
 
-      after_tail : file_step d f b ≡ To h (Tail false) → Goes h bs (line t cs ∷ ls) → Goes f (b ∷ bs) (line t cs ∷ ls)
+      after_tail : file_step d f b ≡ Ok (h, Tail false) → Goes h bs (line t cs ∷ ls) → Goes f (b ∷ bs) (line t cs ∷ ls)
       unfolding move
-      after_tail e k r seen pre text raw cells p y = go y (moved_tail (read_transition f h b bs r seen pre p (To h (Tail false)) e) y.stands.tidy)
+      after_tail e k r seen pre text raw cells p y = go y (moved_tail (read_transition f h b bs r seen pre p (Ok (h, Tail false)) e) y.stands.tidy)
         where
           go :
               {raw : Bytes} → Ready r (b ∷ bs) (line t cs ∷ ls) seen pre text raw cells →
               Parted d h (counts r.state b ≡ false) text raw → Accepted r (b ∷ bs)
           go y (parted c g) =
-              record_goes f h b bs r seen pre p (To h (Tail false)) r.size r.cells text
-              (uncounted_byte f h b bs r seen pre p y (To h (Tail false)) e c) refl k y
+              record_goes f h b bs r seen pre p (Ok (h, Tail false)) r.size r.cells text
+              (uncounted_byte f h b bs r seen pre p y (Ok (h, Tail false)) e c) refl k y
               y.stands.size y.stands.fits y.stands.complete g y.fit refl
 
-      after_tail_closing : file_step d f b ≡ To h (Tail true) → Goes h bs (line t cs ∷ ls) → Goes f (b ∷ bs) (line t ([] ∷ cs) ∷ ls)
+      after_tail_closing : file_step d f b ≡ Ok (h, Tail true) → Goes h bs (line t cs ∷ ls) → Goes f (b ∷ bs) (line t ([] ∷ cs) ∷ ls)
       unfolding move
       after_tail_closing e k r seen pre text raw cells p y = go y.fit
         where
           go : Fit (length text) (line t ([] ∷ cs) ∷ ls) → Accepted r (b ∷ bs)
           go (fit_line x m) =
-              record_goes f h b bs r seen pre p (To h (Tail true)) r.size (closing d true r) text
-              (uncounted_byte f h b bs r seen pre p y (To h (Tail true)) e
-              (tail_uncounted (read_transition f h b bs r seen pre p (To h (Tail true)) e))) refl k y
+              record_goes f h b bs r seen pre p (Ok (h, Tail true)) r.size (closing d true r) text
+              (uncounted_byte f h b bs r seen pre p y (Ok (h, Tail true)) e
+              (tail_uncounted (read_transition f h b bs r seen pre p (Ok (h, Tail true)) e))) refl k y
               y.stands.size y.stands.fits (closes_now y.stands (b ∷ bs) y.place) (tail_stage (its_transition e))
               (fit_line x m) (joined_tail_closing d text raw cells b t cs ls)
 
-    after_ends : (ls : List (Line Bytes)) → file_step d f b ≡ To h (Ends false) → Goes h bs ls → Goes f (b ∷ bs) (line [] [] ∷ ls)
+    after_ends : (ls : List (Line Bytes)) → file_step d f b ≡ Ok (h, Ends false) → Goes h bs ls → Goes f (b ∷ bs) (line [] [] ∷ ls)
     unfolding move
-    after_ends ls e k r seen pre text raw cells p y = go y y.fit (moved_ends (read_transition f h b bs r seen pre p (To h (Ends false)) e) y.stands.tidy)
+    after_ends ls e k r seen pre text raw cells p y = go y y.fit (moved_ends (read_transition f h b bs r seen pre p (Ok (h, Ends false)) e) y.stands.tidy)
       where
         go :
             {raw : Bytes} → Ready r (b ∷ bs) (line [] [] ∷ ls) seen pre text raw cells → Fit (length text) (line [] [] ∷ ls) →
@@ -318,11 +318,11 @@ module _ (d : Dialect) (file : Bytes) (total : List (Line Derived)) (limit : len
         go y (fit_line x m) (ended c g) =
             let a : LineSound d pre cells × ChecksFrom d (pre ++ (line text cells ∷ [])) (joined d [] [] [] ls) =
             rw (append-nil text, append-nil cells, ← (joined_rest d ls)) at (checks_line y.checks) in
-            complete_goes f h b bs r seen pre p (To h (Ends false)) r.cells
-            (uncounted_byte f h b bs r seen pre p y (To h (Ends false)) e c) refl k y y.stands.complete g
+            complete_goes f h b bs r seen pre p (Ok (h, Ends false)) r.cells
+            (uncounted_byte f h b bs r seen pre p y (Ok (h, Ends false)) e c) refl k y y.stands.complete g
             (fit_rest ls m) (joined_ends d pre text [] cells ls) a.0 a.1
 
-    after_ends_closing : (ls : List (Line Bytes)) → file_step d f b ≡ To h (Ends true) → Goes h bs ls → Goes f (b ∷ bs) (line [] ([] ∷ []) ∷ ls)
+    after_ends_closing : (ls : List (Line Bytes)) → file_step d f b ≡ Ok (h, Ends true) → Goes h bs ls → Goes f (b ∷ bs) (line [] ([] ∷ []) ∷ ls)
     unfolding move
     after_ends_closing ls e k r seen pre text raw cells p y = go y.fit
       where
@@ -331,9 +331,9 @@ module _ (d : Dialect) (file : Bytes) (total : List (Line Derived)) (limit : len
             let cells' : List Derived = cells ++ (decoded d raw ∷ []) in
             let a : LineSound d pre cells' × ChecksFrom d (pre ++ (line text cells' ∷ [])) (joined d [] [] [] ls) =
             rw (append-nil text, append-nil raw, ← (joined_rest d ls)) at (checks_line y.checks) in
-            complete_goes f h b bs r seen pre p (To h (Ends true)) (closing d true r)
-            (uncounted_byte f h b bs r seen pre p y (To h (Ends true)) e
-            (ends_uncounted (read_transition f h b bs r seen pre p (To h (Ends true)) e))) refl k y
+            complete_goes f h b bs r seen pre p (Ok (h, Ends true)) (closing d true r)
+            (uncounted_byte f h b bs r seen pre p y (Ok (h, Ends true)) e
+            (ends_uncounted (read_transition f h b bs r seen pre p (Ok (h, Ends true)) e))) refl k y
             (closes_now y.stands (b ∷ bs) y.place) (ends_stage (its_transition e)) (fit_rest ls m)
             (joined_ends_closing d pre text raw cells ls) a.0 a.1
 
@@ -360,7 +360,7 @@ module _ (d : Dialect) (file : Bytes) (total : List (Line Derived)) (limit : len
       let c : Each (ShowsCell file) vs cells' = closes_now y.stands [] y.place in
       let end : Read = between_records (r.done ++ (record { start = r.start; size = r.size; cells = vs } ∷ [])) Begin r.offset in
       let l : LineSound d pre cells' = rw (append-nil raw) at (checks_line y.checks).0 in
-      let v : record_fault d none r.done vs ≡ Sound = record_sound_checked d y.stands.done c l in
+      let v : record_fault d None r.done vs ≡ Ok tt = record_sound_checked d y.stands.done c l in
       let a : total ≡ pre ++ (line text cells' ∷ []) = rw (append-nil text, append-nil raw) at y.sum in
       let k : Each (ShowsRecord file) (r.done ++ (record { start = r.start; size = r.size; cells = vs } ∷ [])) (pre ++ (line text cells' ∷ [])) =
       each_snoc y.stands.done (record { size = y.stands.size; cells = c }) in

@@ -4,14 +4,14 @@ use Prim.Native.Nat.{ℕ, suc, ◌≤◌, ◌<◌}
 use native.Mathlib.Omega.{arith}
 use mathlib.Core.Path.{◌≡◌, refl, sym, ap, ◌∙◌}
 use mathlib.Core.Bool.{Bool, true, false, ◌&&◌}
-use mathlib.Core.Option.{none}
+use Rattle.std.specs.Prelude.{None}
 use mathlib.Core.List.{List, [], ◌∷◌, ◌++◌, map, append_assoc, append-nil}
 use lib.ListN.{length}
 use lib.Dec.{leb}
 use borrow.Author.Tests.{leb-false}
 use Rattle.grammar.specs.rfc.Types.{Dialect, Csvj, Tdif, CsvPlus, Cell, Fault, FileState, Top, Begin, Ended, Bom1, Bom2, PlainBom1, PlainBom2}
-use Rattle.grammar.specs.rfc.Types.{Comment, Blanks, ExpectCell, Inside, After, Cr, OfCell, Outside, Passed, Between, Tail, Ends, Step, To}
-use Rattle.grammar.specs.rfc.Types.{Reject, Ending, Clean, Final, Cut, CheckResult, Sound, Faulty}
+use Rattle.grammar.specs.rfc.Types.{Comment, Blanks, ExpectCell, Inside, After, Cr, OfCell, Outside, Passed, Between, Tail, Ends, Step, Ok}
+use Rattle.grammar.specs.rfc.Types.{Err, Ending, Clean, Final, Cut, CheckResult}
 use Rattle.model.specs.rules.Base.{Bytes, choose◌then◌else◌}
 use Rattle.model.specs.rules.Cell.{is_whole}
 use Rattle.model.specs.rules.File.{file_step, file_end, last_cell, counts}
@@ -119,10 +119,10 @@ some_last (x ∷ pre) l = some
 
 -- ---- reading does not continue after a fault
 
-pub not_going : {A : Type 0} (d : Dialect) (e : Fault) (r : Read) (xs : Bytes) {end : Read} → read_end d none (read_from d none (stopped e r) xs) ≡ going end → A
+pub not_going : {A : Type 0} (d : Dialect) (e : Fault) (r : Read) (xs : Bytes) {end : Read} → read_end d None (read_from d None (stopped e r) xs) ≡ going end → A
 unfolding read_end
 not_going d e r xs {end} q =
-    let z : stopped e r ≡ going end = rw (read_stopped d none e r xs) at q in
+    let z : stopped e r ≡ going end = rw (read_stopped d None e r xs) at q in
     let o : ◌≡◌ {A = ℕ} 0 1 = cc in absurd (omega arith)
 
 pub same_going : {r end : Read} → going r ≡ going end → r ≡ end
@@ -147,7 +147,7 @@ module _ (d : Dialect) (file : Bytes) (end : Read) where
   abbrev Comes : Bytes → Type 0
   Comes xs =
       (r : Read) (seen : Bytes) (pre : List (Line Derived)) (text raw : Bytes) (cells : List Derived) → Lies d file seen r pre text raw cells →
-      file ≡ seen ++ xs → read_end d none (read_from d none (going r) xs) ≡ going end → Outcome r xs pre text raw cells
+      file ≡ seen ++ xs → read_end d None (read_from d None (going r) xs) ≡ going end → Outcome r xs pre text raw cells
 
   module _ (b : ℕ) (bs : Bytes) (ih : Comes bs) (r : Read) (seen : Bytes) (pre : List (Line Derived))
       (room : suc (length seen) ≤ MAXFILE) (place : file ≡ seen ++ (b ∷ bs)) where
@@ -157,7 +157,7 @@ module _ (d : Dialect) (file : Bytes) (end : Read) where
     rest_comes :
         (h : FileState) (start : ℕ) {text raw : Bytes} {cells : List Derived} → Lies d file seen r pre text raw cells → Rested d h text raw cells →
         ((ls : List (Line Bytes)) → Reads d h bs ls → Reads d r.state (b ∷ bs) ls) →
-        read_end d none (read_from d none (going (record {
+        read_end d None (read_from d None (going (record {
           done = r.done;
           state = h;
           offset = suc r.offset;
@@ -211,9 +211,9 @@ module _ (d : Dialect) (file : Bytes) (end : Read) where
     longer text {t} (fit_line x m) = let l : length (text ++ (b ∷ [])) ≡ suc (length text) = length_snoc text b in fit_line {t = b ∷ t} (omega arith) m
 
     cell_comes :
-        (h : FileState) {text raw : Bytes} {cells : List Derived} → Lies d file seen r pre text raw cells → file_step d r.state b ≡ To h OfCell →
+        (h : FileState) {text raw : Bytes} {cells : List Derived} → Lies d file seen r pre text raw cells → file_step d r.state b ≡ Ok (h, OfCell) →
         stage_of d h ≡ in_cell_lem → length text < MAXRECORD →
-        read_end d none (read_from d none (going (record {
+        read_end d None (read_from d None (going (record {
           done = r.done;
           state = h;
           offset = suc r.offset;
@@ -252,7 +252,7 @@ module _ (d : Dialect) (file : Bytes) (end : Read) where
         Lies d file seen r pre text raw cells → size ≡ length text' → length text' ≤ MAXRECORD → Each (ShowsCell file) vs cells' → Recording (stage_of d h) →
         ((n : Read) (t : Bytes) (cs : List Bytes) (ls : List (Line Bytes)) → Reads d h bs (line t cs ∷ ls) →
         Facts n bs pre text' [] cells' (line t cs ∷ ls) → Outcome r (b ∷ bs) pre text raw cells) →
-        read_end d none (read_from d none (going (record {
+        read_end d None (read_from d None (going (record {
           done = r.done;
           state = h;
           offset = suc r.offset;
@@ -281,9 +281,9 @@ module _ (d : Dialect) (file : Bytes) (end : Read) where
         ((ls : List (Line Bytes)) → Reads d h bs ls → Reads d r.state (b ∷ bs) (line [] rest ∷ ls)) →
         ((ls : List (Line Bytes)) → pre ++ joined d text raw cells (line [] rest ∷ ls) ≡ (pre ++ (line text cells' ∷ [])) ++ joined d [] [] [] ls) →
         ((ls : List (Line Bytes)) → line text cells' ∷ map (decoded_line d) ls ≡ joined d text raw cells (line [] rest ∷ ls)) →
-        read_end d none (read_from d none (complete d none r vs h (suc r.offset)) bs) ≡ going end → Outcome r (b ∷ bs) pre text raw cells
+        read_end d None (read_from d None (complete d None r vs h (suc r.offset)) bs) ≡ going end → Outcome r (b ∷ bs) pre text raw cells
     unfolding complete
-    complete_comes h vs cells' {text} {raw} {cells} s c g rest k sum same q = verdict (record_fault d none r.done vs) refl q
+    complete_comes h vs cells' {text} {raw} {cells} s c g rest k sum same q = verdict (record_fault d None r.done vs) refl q
       where
         next : Read
         next = between_records (r.done ++ (record { start = r.start; size = r.size; cells = vs } ∷ [])) h (suc r.offset)
@@ -308,10 +308,10 @@ module _ (d : Dialect) (file : Bytes) (end : Read) where
             })
 
         verdict :
-            (v : CheckResult) → record_fault d none r.done vs ≡ v → read_end d none (read_from d none (validated r next v) bs) ≡ going end →
+            (v : CheckResult) → record_fault d None r.done vs ≡ v → read_end d None (read_from d None (validated r next v) bs) ≡ going end →
             Outcome r (b ∷ bs) pre text raw cells
-        verdict Sound e q = go (record_checked d s.done c e) (ih next (seen ++ (b ∷ [])) (pre ++ (line text cells' ∷ [])) [] [] [] stands further q)
-        verdict (Faulty x) e q = not_going d x r bs q
+        verdict (Ok _) e q = go (record_checked d s.done c e) (ih next (seen ++ (b ∷ [])) (pre ++ (line text cells' ∷ [])) [] [] [] stands further q)
+        verdict (Err x) e q = not_going d x r bs q
 
     size_left :
         {text raw : Bytes} {cells : List Derived} → Lies d file seen r pre text raw cells → record_full r b ≡ false →
@@ -327,9 +327,9 @@ module _ (d : Dialect) (file : Bytes) (end : Read) where
         go false e = refl
 
     between_comes :
-        (h : FileState) {text raw : Bytes} {cells : List Derived} → Lies d file seen r pre text raw cells → file_step d r.state b ≡ To h (Between false) →
+        (h : FileState) {text raw : Bytes} {cells : List Derived} → Lies d file seen r pre text raw cells → file_step d r.state b ≡ Ok (h, Between false) →
         record_full r b ≡ false → Parted d h (counts r.state b ≡ true) text raw →
-        read_end d none (read_from d none (move d none r b (To h (Between false))) bs) ≡ going end →
+        read_end d None (read_from d None (move d None r b (Ok (h, Between false))) bs) ≡ going end →
         Outcome r (b ∷ bs) pre text raw cells
     unfolding move
     between_comes h {text} {cells} s e f (parted c g) q =
@@ -339,8 +339,8 @@ module _ (d : Dialect) (file : Bytes) (end : Read) where
         (λ n t cs ls m y. told (line (b ∷ t) cs ∷ ls) y (reading.between e m) (longer text y.fit) (joined_between d text [] cells b t cs ls)) q
 
     between_closing_comes :
-        (h : FileState) {text raw : Bytes} {cells : List Derived} → Lies d file seen r pre text raw cells → file_step d r.state b ≡ To h (Between true) →
-        record_full r b ≡ false → read_end d none (read_from d none (move d none r b (To h (Between true))) bs) ≡ going end →
+        (h : FileState) {text raw : Bytes} {cells : List Derived} → Lies d file seen r pre text raw cells → file_step d r.state b ≡ Ok (h, Between true) →
+        record_full r b ≡ false → read_end d None (read_from d None (move d None r b (Ok (h, Between true))) bs) ≡ going end →
         Outcome r (b ∷ bs) pre text raw cells
     unfolding move
     between_closing_comes h {text} {raw} {cells} s e f q =
@@ -353,8 +353,8 @@ module _ (d : Dialect) (file : Bytes) (end : Read) where
         (joined_between_closing d text raw cells b t cs ls)) q
 
     tail_comes :
-        (h : FileState) {text raw : Bytes} {cells : List Derived} → Lies d file seen r pre text raw cells → file_step d r.state b ≡ To h (Tail false) →
-        Parted d h (counts r.state b ≡ false) text raw → read_end d none (read_from d none (move d none r b (To h (Tail false))) bs) ≡ going end →
+        (h : FileState) {text raw : Bytes} {cells : List Derived} → Lies d file seen r pre text raw cells → file_step d r.state b ≡ Ok (h, Tail false) →
+        Parted d h (counts r.state b ≡ false) text raw → read_end d None (read_from d None (move d None r b (Ok (h, Tail false))) bs) ≡ going end →
         Outcome r (b ∷ bs) pre text raw cells
     unfolding move
     tail_comes h {text} {cells} s e (parted c g) q =
@@ -365,8 +365,8 @@ module _ (d : Dialect) (file : Bytes) (end : Read) where
     same_fit (fit_line {t} x m) = fit_line {t = t} x m
 
     tail_closing_comes :
-        (h : FileState) {text raw : Bytes} {cells : List Derived} → Lies d file seen r pre text raw cells → file_step d r.state b ≡ To h (Tail true) →
-        read_end d none (read_from d none (move d none r b (To h (Tail true))) bs) ≡ going end → Outcome r (b ∷ bs) pre text raw cells
+        (h : FileState) {text raw : Bytes} {cells : List Derived} → Lies d file seen r pre text raw cells → file_step d r.state b ≡ Ok (h, Tail true) →
+        read_end d None (read_from d None (move d None r b (Ok (h, Tail true))) bs) ≡ going end → Outcome r (b ∷ bs) pre text raw cells
     unfolding move
     tail_closing_comes h {text} {raw} {cells} s e q =
         record_comes h r.size (closing d true r) text (cells ++ (decoded d raw ∷ [])) s s.size s.fits
@@ -374,8 +374,8 @@ module _ (d : Dialect) (file : Bytes) (end : Read) where
         (λ n t cs ls m y. told (line t ([] ∷ cs) ∷ ls) y (reading.tail_closing e m) (same_fit y.fit) (joined_tail_closing d text raw cells b t cs ls)) q
 
     ends_comes :
-        (h : FileState) {text raw : Bytes} {cells : List Derived} → Lies d file seen r pre text raw cells → file_step d r.state b ≡ To h (Ends false) →
-        standing.Ended d h (counts r.state b ≡ false) text raw → read_end d none (read_from d none (move d none r b (To h (Ends false))) bs) ≡ going end →
+        (h : FileState) {text raw : Bytes} {cells : List Derived} → Lies d file seen r pre text raw cells → file_step d r.state b ≡ Ok (h, Ends false) →
+        standing.Ended d h (counts r.state b ≡ false) text raw → read_end d None (read_from d None (move d None r b (Ok (h, Ends false))) bs) ≡ going end →
         Outcome r (b ∷ bs) pre text raw cells
     unfolding move
     ends_comes h {text} {cells} s e (standing.ended c g) q =
@@ -383,8 +383,8 @@ module _ (d : Dialect) (file : Bytes) (end : Read) where
         (λ ls. rw (append-nil text, append-nil cells)) q
 
     ends_closing_comes :
-        (h : FileState) {text raw : Bytes} {cells : List Derived} → Lies d file seen r pre text raw cells → file_step d r.state b ≡ To h (Ends true) →
-        read_end d none (read_from d none (move d none r b (To h (Ends true))) bs) ≡ going end → Outcome r (b ∷ bs) pre text raw cells
+        (h : FileState) {text raw : Bytes} {cells : List Derived} → Lies d file seen r pre text raw cells → file_step d r.state b ≡ Ok (h, Ends true) →
+        read_end d None (read_from d None (move d None r b (Ok (h, Ends true))) bs) ≡ going end → Outcome r (b ∷ bs) pre text raw cells
     unfolding move
     ends_closing_comes h {text} {raw} {cells} s e q =
         complete_comes h (closing d true r) (cells ++ (decoded d raw ∷ [])) s (closes_now s (b ∷ bs) place)
@@ -393,18 +393,18 @@ module _ (d : Dialect) (file : Bytes) (end : Read) where
 
     step_comes :
         (s : Step) {text raw : Bytes} {cells : List Derived} → Lies d file seen r pre text raw cells → file_step d r.state b ≡ s → record_full r b ≡ false →
-        read_end d none (read_from d none (move d none r b s) bs) ≡ going end → Outcome r (b ∷ bs) pre text raw cells
+        read_end d None (read_from d None (move d None r b s) bs) ≡ going end → Outcome r (b ∷ bs) pre text raw cells
     unfolding move
-    step_comes (Reject x) s e f q = not_going d (types.Byte x) r bs q
-    step_comes (To h Outside) s e f q = rest_comes h r.start s (moved_outside (its_transition e) s.tidy) (λ ls m. reading.outside e m) q
-    step_comes (To h Passed) s e f q = rest_comes h (suc r.offset) s (moved_passed (its_transition e) s.tidy) (λ ls m. reading.passed e m) q
-    step_comes (To h OfCell) s e f q = cell_comes h s e (cell_stage (its_transition e)) (size_left s f (cell_counts (its_transition e))) q
-    step_comes (To h (Between false)) s e f q = between_comes h s e f (moved_between (its_transition e) s.tidy) q
-    step_comes (To h (Between true)) s e f q = between_closing_comes h s e f q
-    step_comes (To h (Tail false)) s e f q = tail_comes h s e (moved_tail (its_transition e) s.tidy) q
-    step_comes (To h (Tail true)) s e f q = tail_closing_comes h s e q
-    step_comes (To h (Ends false)) s e f q = ends_comes h s e (moved_ends (its_transition e) s.tidy) q
-    step_comes (To h (Ends true)) s e f q = ends_closing_comes h s e q
+    step_comes (Err x) s e f q = not_going d (types.Byte x) r bs q
+    step_comes (Ok (h, Outside)) s e f q = rest_comes h r.start s (moved_outside (its_transition e) s.tidy) (λ ls m. reading.outside e m) q
+    step_comes (Ok (h, Passed)) s e f q = rest_comes h (suc r.offset) s (moved_passed (its_transition e) s.tidy) (λ ls m. reading.passed e m) q
+    step_comes (Ok (h, OfCell)) s e f q = cell_comes h s e (cell_stage (its_transition e)) (size_left s f (cell_counts (its_transition e))) q
+    step_comes (Ok (h, Between false)) s e f q = between_comes h s e f (moved_between (its_transition e) s.tidy) q
+    step_comes (Ok (h, Between true)) s e f q = between_closing_comes h s e f q
+    step_comes (Ok (h, Tail false)) s e f q = tail_comes h s e (moved_tail (its_transition e) s.tidy) q
+    step_comes (Ok (h, Tail true)) s e f q = tail_closing_comes h s e q
+    step_comes (Ok (h, Ends false)) s e f q = ends_comes h s e (moved_ends (its_transition e) s.tidy) q
+    step_comes (Ok (h, Ends true)) s e f q = ends_closing_comes h s e q
 
   byte_comes : (b : ℕ) (bs : Bytes) → Comes bs → Comes (b ∷ bs)
   unfolding read_from read_byte file_full choose◌then◌else◌
@@ -463,10 +463,10 @@ module _ (d : Dialect) (file : Bytes) (end : Read) where
       c = closes_now s [] place
 
       final :
-          file_end d r.state ≡ Final → (v : CheckResult) → record_fault d none r.done vs ≡ v → validated r next v ≡ going end →
+          file_end d r.state ≡ Final → (v : CheckResult) → record_fault d None r.done vs ≡ v → validated r next v ≡ going end →
           Outcome r [] pre text raw cells
-      final e (Faulty x) w q = stopped_going q
-      final e Sound w q =
+      final e (Err x) w q = stopped_going q
+      final e (Ok _) w q =
           let z : next ≡ end = same_going q in
           let f : length text ≤ MAXRECORD = s.fits in
           let l : LineSound d pre cells' = record_checked d s.done c w in
@@ -483,9 +483,9 @@ module _ (d : Dialect) (file : Bytes) (end : Read) where
             limit = whole_file s place;
           })
 
-      go : (x : Ending) → file_end d r.state ≡ x → end_at d none r x ≡ going end → Outcome r [] pre text raw cells
+      go : (x : Ending) → file_end d r.state ≡ x → end_at d None r x ≡ going end → Outcome r [] pre text raw cells
       go Clean e q = clean_comes r s (whole_file s place) e q
-      go Final e q = unfold complete in final e (record_fault d none r.done vs) refl q
+      go Final e q = unfold complete in final e (record_fault d None r.done vs) refl q
       go Cut e q = stopped_going q
 
   pub accepted_comes : (xs : Bytes) → Comes xs

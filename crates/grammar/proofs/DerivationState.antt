@@ -6,7 +6,7 @@ use mathlib.Core.Path.{◌≡◌, refl, sym, ap, ◌∙◌}
 use mathlib.Core.Bool.{true, false}
 use mathlib.Core.List.{List, [], ◌∷◌, ◌++◌, map, append_assoc, append-nil}
 use lib.ListN.{length, length-append}
-use Rattle.grammar.specs.rfc.Types.{Dialect, FileState, Outside, Passed, Between, Tail, Ends, To}
+use Rattle.grammar.specs.rfc.Types.{Dialect, FileState, Outside, Passed, Between, Tail, Ends, Ok}
 use Rattle.model.specs.rules.Base.{Bytes}
 use Rattle.model.specs.rules.Decode.{kind_of, content_of}
 use Rattle.model.specs.rules.Report.{MAXFILE, MAXRECORD}
@@ -215,17 +215,17 @@ no_raw none_at_rest tidy_rest = refl
 no_raw none_in_record tidy_record = refl
 
 module _ {d : Dialect} {f h : FileState} {b : ℕ} {A : Type 0} {text raw : Bytes} {cells : List A} where
-  pub moved_outside : Transition d f b (To h Outside) → Tidy (stage_of d f) text raw cells → Rested d h text raw cells
+  pub moved_outside : Transition d f b (Ok (h, Outside)) → Tidy (stage_of d f) text raw cells → Rested d h text raw cells
   moved_outside x t = let e = outside_rests x in rest_stays e.1 (rw e.0 at t)
 
-  pub moved_passed : Transition d f b (To h Passed) → Tidy (stage_of d f) text raw cells → Rested d h text raw cells
+  pub moved_passed : Transition d f b (Ok (h, Passed)) → Tidy (stage_of d f) text raw cells → Rested d h text raw cells
   moved_passed x t = let e = passed_rests x in rest_stays e.1 (rw e.0 at t)
 
-  pub moved_between : Transition d f b (To h (Between false)) → Tidy (stage_of d f) text raw cells → Parted d h (counts f b ≡ true) text raw
+  pub moved_between : Transition d f b (Ok (h, Between false)) → Tidy (stage_of d f) text raw cells → Parted d h (counts f b ≡ true) text raw
   moved_between x t = rw (no_raw (between_no_cell x) t) (parted (between_counts x) (between_stage x))
 
-  pub moved_tail : Transition d f b (To h (Tail false)) → Tidy (stage_of d f) text raw cells → Parted d h (counts f b ≡ false) text raw
+  pub moved_tail : Transition d f b (Ok (h, Tail false)) → Tidy (stage_of d f) text raw cells → Parted d h (counts f b ≡ false) text raw
   moved_tail x t = rw (no_raw (tail_no_cell x) t) (parted (tail_uncounted x) (tail_stage x))
 
-  pub moved_ends : Transition d f b (To h (Ends false)) → Tidy (stage_of d f) text raw cells → Ended d h (counts f b ≡ false) text raw
+  pub moved_ends : Transition d f b (Ok (h, Ends false)) → Tidy (stage_of d f) text raw cells → Ended d h (counts f b ≡ false) text raw
   moved_ends x t = rw (no_raw (ends_no_cell x) t) (ended (ends_uncounted x) (ends_stage x))

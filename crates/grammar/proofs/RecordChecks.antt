@@ -5,41 +5,29 @@ use native.Mathlib.Omega.{arith}
 use mathlib.Core.Path.{◌≡◌, refl, sym, ap, ◌∙◌}
 use mathlib.Core.Logic.{◌≢◌}
 use mathlib.Core.Bool.{Bool, true, false, not}
-use mathlib.Core.Option.{none}
+use Rattle.std.specs.Prelude.{None}
 use mathlib.Core.List.{List, [], ◌∷◌, ◌++◌}
 use lib.ListN.{length}
 use lib.Dec.{ltb, eqb}
 use borrow.Author.Tests.{ltb-false, le-ltb, eqb-true, eq-eqb, not-false}
 use Rattle.grammar.specs.rfc.Types.{Kind, Text, Number, True, False, Null, Dialect, Fault, TooManyColumns, HeaderKind, RepeatedName, CellCount}
-use Rattle.grammar.specs.rfc.Types.{CheckResult, Sound, Faulty}
+use Rattle.grammar.specs.rfc.Types.{CheckResult, Ok, Err}
 use Rattle.model.specs.rules.Base.{Bytes, choose◌then◌else◌, same}
 use Rattle.model.specs.rules.Text.{Value, is_text}
 use Rattle.model.specs.rules.Report.{MAXCOLUMNS}
 use Rattle.model.specs.rules.Records.{Rec, ◌or_else◌, when, name_key, among, repeat_from, repeat_fault, header_kind_from, header_fault, data_fault, record_fault}
+use Rattle.model.proofs.file_laws.CheckResults.{fault_sound, else_sound, when_sound}
 use Rattle.model.proofs.Tests.{impossible, and_true, is→eq, same_byte}
 use Rattle.grammar.specs.rfc.Derived.{Derived, kind_in, content_in, Line, line, cells_in, Every, every_none, every_cons, Each, each_none, each_cons}
 use Rattle.grammar.specs.Accepted.{Distinct, no_names, a_name, ChecksHold, checks_hold, ShowsCell, ShowsRecord}
 
 -- ---- check results
 
-faulty_sound : {A : Type 0} {e : Fault} → Faulty e ≡ Sound → A
-faulty_sound p = let z : ◌≡◌ {A = ℕ} 0 1 = cc in absurd (omega arith)
-
-both_sound : (v w : CheckResult) → (v or_else w) ≡ Sound → (v ≡ Sound) × (w ≡ Sound)
-unfolding ◌or_else◌
-both_sound Sound w p = (refl, p)
-both_sound (Faulty e) w p = faulty_sound p
-
-sound_both : (v w : CheckResult) → v ≡ Sound → w ≡ Sound → (v or_else w) ≡ Sound
+sound_both : (v w : CheckResult) → v ≡ Ok tt → w ≡ Ok tt → (v or_else w) ≡ Ok tt
 unfolding ◌or_else◌
 sound_both v w p q = rw (p, q)
 
-when_sound : (t : Bool) (e : Fault) → when t e ≡ Sound → t ≡ false
-unfolding when
-when_sound true e p = faulty_sound p
-when_sound false e p = refl
-
-sound_when : (t : Bool) (e : Fault) → t ≡ false → when t e ≡ Sound
+sound_when : (t : Bool) (e : Fault) → t ≡ false → when t e ≡ Ok tt
 unfolding when
 sound_when t e p = rw p
 
@@ -53,14 +41,14 @@ not_text False p = impossible (sym p)
 not_text Null p = impossible (sym p)
 
 module _ {file : Bytes} where
-  texts : {vs : List Value} {cs : List Derived} (n : ℕ) → Each (ShowsCell file) vs cs → header_kind_from n vs ≡ Sound → Every (λ c. kind_in c ≡ Text) cs
+  texts : {vs : List Value} {cs : List Derived} (n : ℕ) → Each (ShowsCell file) vs cs → header_kind_from n vs ≡ Ok tt → Every (λ c. kind_in c ≡ Text) cs
   unfolding header_kind_from
   texts n each_none p = every_none
   texts n (each_cons {x = v} {xs = vs} s k) p =
-      let q = both_sound (when (not (is_text v.kind)) (HeaderKind n)) (header_kind_from (suc n) vs) p in
+      let q = else_sound (when (not (is_text v.kind)) (HeaderKind n)) (header_kind_from (suc n) vs) p in
       every_cons (sym s.kind ∙ not_text v.kind (when_sound _ _ q.0)) (texts (suc n) k q.1)
 
-  all_text : {vs : List Value} {cs : List Derived} (n : ℕ) → Each (ShowsCell file) vs cs → Every (λ c. kind_in c ≡ Text) cs → header_kind_from n vs ≡ Sound
+  all_text : {vs : List Value} {cs : List Derived} (n : ℕ) → Each (ShowsCell file) vs cs → Every (λ c. kind_in c ≡ Text) cs → header_kind_from n vs ≡ Ok tt
   unfolding header_kind_from
   all_text n each_none every_none = refl
   all_text n (each_cons {x = v} {xs = vs} s k) (every_cons e m) =
@@ -124,7 +112,7 @@ module _ (d : Dialect) where
   module _ {file : Bytes} where
     distinct :
         {vs : List Value} {cs : List Derived} (seen : List Bytes) (n : ℕ) → Each (ShowsCell file) vs cs →
-        repeat_from d RepeatedName seen n vs ≡ Sound → Unseen seen cs × Distinct d cs
+        repeat_from d RepeatedName seen n vs ≡ Ok tt → Unseen seen cs × Distinct d cs
     unfolding repeat_from choose◌then◌else◌
     distinct seen n each_none p = (every_none, no_names)
     distinct seen n (each_cons {x = v} {xs = vs} {y = c} {ys = cs} s k) p = go (among key seen) refl (λ q. distinct (key ∷ seen) (suc n) k q)
@@ -137,9 +125,9 @@ module _ (d : Dialect) where
 
         go :
             (t : Bool) → among key seen ≡ t →
-            (repeat_from d RepeatedName (key ∷ seen) (suc n) vs ≡ Sound → Unseen (key ∷ seen) cs × Distinct d cs) →
+            (repeat_from d RepeatedName (key ∷ seen) (suc n) vs ≡ Ok tt → Unseen (key ∷ seen) cs × Distinct d cs) →
             Unseen seen (c ∷ cs) × Distinct d (c ∷ cs)
-        go true q ih = faulty_sound (rw q at p)
+        go true q ih = fault_sound (rw q at p)
         go false q ih =
             let m = ih (rw q at p) in
             let u = unseen_cons key seen m.0 in
@@ -148,7 +136,7 @@ module _ (d : Dialect) where
 
     all_distinct :
         {vs : List Value} {cs : List Derived} (seen : List Bytes) (n : ℕ) → Each (ShowsCell file) vs cs → Unseen seen cs → Distinct d cs →
-        repeat_from d RepeatedName seen n vs ≡ Sound
+        repeat_from d RepeatedName seen n vs ≡ Ok tt
     unfolding repeat_from choose◌then◌else◌
     all_distinct seen n each_none u m = refl
     all_distinct seen n (each_cons {x = v} {xs = vs} {y = c} {ys = cs} s k) (every_cons p u) (a_name w m) =
@@ -177,15 +165,15 @@ pub data LineSound (d : Dialect) : List (Line Derived) → List Derived → Type
       LineSound d (h ∷ hs) cs
 
 module _ (d : Dialect) {file : Bytes} where
-  header_checked : {vs : List Value} {cs : List Derived} → Each (ShowsCell file) vs cs → header_fault d vs ≡ Sound → LineSound d [] cs
+  header_checked : {vs : List Value} {cs : List Derived} → Each (ShowsCell file) vs cs → header_fault d vs ≡ Ok tt → LineSound d [] cs
   unfolding header_fault repeat_fault
   header_checked {vs} {cs} k p =
       let l : length vs ≡ length cs = each_length k in
-      let x = both_sound (when (ltb MAXCOLUMNS (length vs)) TooManyColumns) (header_kind_from 1 vs or_else repeat_from d RepeatedName [] 1 vs) p in
-      let y = both_sound (header_kind_from 1 vs) (repeat_from d RepeatedName [] 1 vs) x.1 in
+      let x = else_sound (when (ltb MAXCOLUMNS (length vs)) TooManyColumns) (header_kind_from 1 vs or_else repeat_from d RepeatedName [] 1 vs) p in
+      let y = else_sound (header_kind_from 1 vs) (repeat_from d RepeatedName [] 1 vs) x.1 in
       header_sound (rw l at (ltb-false MAXCOLUMNS (length vs) (when_sound _ _ x.0))) (texts 1 k y.0) (distinct d [] 1 k y.1).1
 
-  header_sound_checked : {vs : List Value} {cs : List Derived} → Each (ShowsCell file) vs cs → LineSound d [] cs → header_fault d vs ≡ Sound
+  header_sound_checked : {vs : List Value} {cs : List Derived} → Each (ShowsCell file) vs cs → LineSound d [] cs → header_fault d vs ≡ Ok tt
   unfolding header_fault repeat_fault
   header_sound_checked {vs} {cs} k (header_sound c t m) =
       let l : length vs ≡ length cs = each_length k in
@@ -196,17 +184,17 @@ module _ (d : Dialect) {file : Bytes} where
 
   data_checked :
       {vs : List Value} {cs : List Derived} {h : Line Derived} {hs : List (Line Derived)} (n : ℕ) → n ≡ length (cells_in h) →
-      Each (ShowsCell file) vs cs → data_fault n vs ≡ Sound → LineSound d (h ∷ hs) cs
+      Each (ShowsCell file) vs cs → data_fault n vs ≡ Ok tt → LineSound d (h ∷ hs) cs
   unfolding data_fault
   data_checked {vs} {cs} n e k p =
       let l : length vs ≡ length cs = each_length k in
-      let x = both_sound (when (ltb MAXCOLUMNS (length vs)) TooManyColumns) (when (not (eqb (length vs) n)) CellCount) p in
+      let x = else_sound (when (ltb MAXCOLUMNS (length vs)) TooManyColumns) (when (not (eqb (length vs) n)) CellCount) p in
       let q : length vs ≡ n = eqb-true (length vs) n (not-false (eqb (length vs) n) (when_sound _ _ x.1)) in
       data_sound (rw l at (ltb-false MAXCOLUMNS (length vs) (when_sound _ _ x.0))) (sym l ∙ q ∙ e)
 
   data_sound_checked :
       {vs : List Value} {cs : List Derived} {h : Line Derived} {hs : List (Line Derived)} (n : ℕ) → n ≡ length (cells_in h) →
-      Each (ShowsCell file) vs cs → LineSound d (h ∷ hs) cs → data_fault n vs ≡ Sound
+      Each (ShowsCell file) vs cs → LineSound d (h ∷ hs) cs → data_fault n vs ≡ Ok tt
   unfolding data_fault
   data_sound_checked {vs} {cs} n e k (data_sound c q) =
       let l : length vs ≡ length cs = each_length k in
@@ -217,19 +205,19 @@ module _ (d : Dialect) {file : Bytes} where
 
   pub record_checked :
       {done : List Rec} {pre : List (Line Derived)} {vs : List Value} {cs : List Derived} → Each (ShowsRecord file) done pre →
-      Each (ShowsCell file) vs cs → record_fault d none done vs ≡ Sound → LineSound d pre cs
+      Each (ShowsCell file) vs cs → record_fault d None done vs ≡ Ok tt → LineSound d pre cs
   unfolding record_fault
-  record_checked {vs} each_none k p = header_checked k (both_sound (header_fault d vs) Sound p).0
+  record_checked {vs} each_none k p = header_checked k (else_sound (header_fault d vs) (Ok tt) p).0
   record_checked {vs} (each_cons {x = h} s m) k p =
-      data_checked (length h.cells) (each_length s.cells) k (both_sound (data_fault (length h.cells) vs) Sound p).0
+      data_checked (length h.cells) (each_length s.cells) k (else_sound (data_fault (length h.cells) vs) (Ok tt) p).0
 
   pub record_sound_checked :
       {done : List Rec} {pre : List (Line Derived)} {vs : List Value} {cs : List Derived} → Each (ShowsRecord file) done pre →
-      Each (ShowsCell file) vs cs → LineSound d pre cs → record_fault d none done vs ≡ Sound
+      Each (ShowsCell file) vs cs → LineSound d pre cs → record_fault d None done vs ≡ Ok tt
   unfolding record_fault
-  record_sound_checked {vs} each_none k p = sound_both (header_fault d vs) Sound (header_sound_checked k p) refl
+  record_sound_checked {vs} each_none k p = sound_both (header_fault d vs) (Ok tt) (header_sound_checked k p) refl
   record_sound_checked {vs} (each_cons {x = h} s m) k p =
-      sound_both (data_fault (length h.cells) vs) Sound (data_sound_checked (length h.cells) (each_length s.cells) k p) refl
+      sound_both (data_fault (length h.cells) vs) (Ok tt) (data_sound_checked (length h.cells) (each_length s.cells) k p) refl
 
 -- ---- one after the other
 

@@ -6,10 +6,10 @@ use native.Mathlib.Omega.{arith}
 use mathlib.Core.Path.{◌≡◌, refl, sym, ap, ◌∙◌}
 use mathlib.Core.Logic.{◌≢◌}
 use mathlib.Core.Bool.{Bool, true, false}
-use mathlib.Core.Option.{none}
+use Rattle.std.specs.Prelude.{None}
 use mathlib.Core.List.{List, [], ◌∷◌, ◌++◌, map}
 use lib.ListN.{length, replicate}
-use Rattle.grammar.specs.rfc.Types.{Kind, Text, Dialect, Csvj, Tdif, CsvPlus, FileState, Top, Step, To, Reject, Ending, Clean, Final, Cut}
+use Rattle.grammar.specs.rfc.Types.{Kind, Text, Dialect, Csvj, Tdif, CsvPlus, FileState, Top, Step, Ok, Err, Ending, Clean, Final, Cut}
 use Rattle.grammar.specs.rfc.Types as types
 use Rattle.model.specs.rules.Base.{Bytes}
 use Rattle.model.specs.rules.Dialect.{standard}
@@ -47,8 +47,8 @@ ended Final = true
 ended Cut = false
 
 taken : (FileState → Bool) → Step → Bool
-taken k (To f p) = k f
-taken k (Reject e) = false
+taken k (Ok (f, p)) = k f
+taken k (Err e) = false
 
 passes : Dialect → Bytes → FileState → Bool
 passes d [] f = ended (file_end d f)
@@ -244,14 +244,14 @@ module _ (exact : Exact) where
   repeated_name : ¬ ChecksHold Csvj (line two_names (name_a ∷ name_a ∷ []) ∷ [])
   unfolding computes
   repeated_name k =
-      let e : report_of (read_file Csvj none (two_names ++ (0x0A ∷ []))) ≡ accepted
+      let e : report_of (read_file Csvj None (two_names ++ (0x0A ∷ []))) ≡ accepted
       = (exact.acceptance Csvj (two_names ++ (0x0A ∷ []))).1 (_, record { derived = two_names_lem; limits = names_fit; checks = k }) in
       let z : ◌≡◌ {A = ℕ} 6 0 = ap (λ r. r.number) e in omega arith
 
   long_record : ¬ WithinLimits too_long (line too_long (cell too_long Text too_long ∷ []) ∷ [])
   unfolding computes
   long_record w =
-      let e : report_of (read_file (CsvPlus standard) none too_long) ≡ accepted
+      let e : report_of (read_file (CsvPlus standard) None too_long) ≡ accepted
       = (exact.acceptance (CsvPlus standard) too_long).1 (
         _,
         record {
@@ -266,7 +266,7 @@ module _ (exact : Exact) where
 
   begun : ¬ ¬ ProceedsOn Csvj [] 0x22
   unfolding computes
-  begun n = stopped_going (sym ((exact.next_byte Csvj none [] nothing_read 0x22 refl refl refl).refused.1 n).1)
+  begun n = stopped_going (sym ((exact.next_byte Csvj None [] nothing_read 0x22 refl refl refl).refused.1 n).1)
 
   of_rfcs : RfcMistakes
   of_rfcs =

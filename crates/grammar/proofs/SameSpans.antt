@@ -3,12 +3,12 @@
 use Prim.Native.Nat.{ℕ, suc}
 use mathlib.Core.Path.{◌≡◌, refl, sym, ap, ◌∙◌}
 use mathlib.Core.Bool.{Bool, true, false}
-use mathlib.Core.Option.{none, some}
+use Rattle.std.specs.Prelude.{None, Some}
 use mathlib.Core.List.{List, [], ◌∷◌, ◌++◌, map, map-append, append_assoc, append-nil}
 use lib.ListN.{length}
 use lib.Dec.{ltb}
-use Rattle.grammar.specs.rfc.Types.{Dialect, FileState, Begin, OfCell, Outside, Passed, Between, Tail, Ends, Step, To, Clean, Final}
-use Rattle.grammar.specs.rfc.Types.{CheckResult, Sound, Faulty}
+use Rattle.grammar.specs.rfc.Types.{Dialect, FileState, Begin, OfCell, Outside, Passed, Between, Tail, Ends, Step, Ok, Clean, Final}
+use Rattle.grammar.specs.rfc.Types.{CheckResult, Err}
 use Rattle.grammar.specs.rfc.Types as types
 use Rattle.model.specs.rules.Base.{Bytes, choose◌then◌else◌, concat}
 use Rattle.model.specs.rules.Dialect.{dialect_of}
@@ -43,7 +43,7 @@ onto_none (ps ∷ ss) = refl
 module _ (d : Dialect) (end : Read) where
   -- reading on from r reaches the end
   abbrev Comes : Read → Bytes → Type 0
-  Comes r xs = read_end d none (read_from d none (going r) xs) ≡ going end
+  Comes r xs = read_end d None (read_from d None (going r) xs) ≡ going end
 
   -- the records are then those that were complete, and these
   abbrev Shows : Read → List (List Span) → Type 0
@@ -51,19 +51,19 @@ module _ (d : Dialect) (end : Read) where
 
   byte_read :
       (r : Read) (b : ℕ) (bs : Bytes) (s : Step) → file_step d r.state b ≡ s → Comes r (b ∷ bs) →
-      read_end d none (read_from d none (move d none r b s) bs) ≡ going end
+      read_end d None (read_from d None (move d None r b s) bs) ≡ going end
   unfolding read_from read_byte choose◌then◌else◌
   byte_read r b bs s e q = go (file_full r) (record_full r b) refl refl
     where
-      go : (x y : Bool) → file_full r ≡ x → record_full r b ≡ y → read_end d none (read_from d none (move d none r b s) bs) ≡ going end
+      go : (x y : Bool) → file_full r ≡ x → record_full r b ≡ y → read_end d None (read_from d None (move d None r b s) bs) ≡ going end
       go true y f z = not_going d types.FileTooLong r bs (rw f at q)
       go false true f z = not_going d types.RecordTooLong r bs (rw (f, z) at q)
       go false false f z = rw (f, z, e) at q
 
   verdict_read :
-      (r next : Read) (bs : Bytes) (v : CheckResult) → read_end d none (read_from d none (validated r next v) bs) ≡ going end → Comes next bs
-  verdict_read r next bs Sound q = q
-  verdict_read r next bs (Faulty x) q = not_going d x r bs q
+      (r next : Read) (bs : Bytes) (v : CheckResult) → read_end d None (read_from d None (validated r next v) bs) ≡ going end → Comes next bs
+  verdict_read r next bs (Ok _) q = q
+  verdict_read r next bs (Err x) q = not_going d x r bs q
 
   -- the current cell closes where the run has it
   closing_onto :
@@ -90,8 +90,8 @@ module _ (d : Dialect) (end : Read) where
   between_same r (h ∷ rs) q = same_going q
 
   validated_same : (r next : Read) (v : CheckResult) → validated r next v ≡ going end → next ≡ end
-  validated_same r next Sound q = same_going q
-  validated_same r next (Faulty x) q = stopped_going q
+  validated_same r next (Ok _) q = same_going q
+  validated_same r next (Err x) q = stopped_going q
 
   stepped : (r : Read) {f : FileState} (b : ℕ) (s : Step) → r.state ≡ f → file_step d f b ≡ s → file_step d r.state b ≡ s
   stepped r b s p e = ap (λ z. file_step d z b) p ∙ e
@@ -108,55 +108,55 @@ module _ (d : Dialect) (end : Read) where
       let c : file_end d r.state ≡ Final = ap (file_end d) pf ∙ e in
       let made : Rec = record { start = r.start; size = r.size; cells = closing d true r } in
       let next : Read = between_records (r.done ++ (made ∷ [])) Begin r.offset in
-      let z : next ≡ end = validated_same r next (record_fault d none r.done (closing d true r)) (rw c at q) in
+      let z : next ≡ end = validated_same r next (record_fault d None r.done (closing d true r)) (rw c at q) in
       let a : shown (r.done ++ (made ∷ [])) ≡ shown (r.done ++ (made ∷ [])) ++ [] = sym (append-nil (shown (r.done ++ (made ∷ [])))) in
       sym (ap (λ (x : Read). shown x.done) z) ∙ a ∙ record_onto r.done made [] ∙ ap (λ z. shown r.done ++ z) (closing_onto r [] [] po pp)
   walk_shows (walks.outside {g} {b} {bs} e k) r pf po pp t q =
-      let s = stepped r b (To g Outside) pf e in
+      let s = stepped r b (Ok (g, Outside)) pf e in
       let m = rested_none (moved_outside (its_transition s) t) in
-      rw m.0 (walk_shows k _ refl (ap suc po) (ap suc po) (rest_tidy m.1) (byte_read r b bs (To g Outside) s q))
+      rw m.0 (walk_shows k _ refl (ap suc po) (ap suc po) (rest_tidy m.1) (byte_read r b bs (Ok (g, Outside)) s q))
   walk_shows (walks.passed {g} {b} {bs} e k) r pf po pp t q =
-      let s = stepped r b (To g Passed) pf e in
+      let s = stepped r b (Ok (g, Passed)) pf e in
       let m = rested_none (moved_passed (its_transition s) t) in
-      rw m.0 (walk_shows k _ refl (ap suc po) (ap suc po) (rest_tidy m.1) (byte_read r b bs (To g Passed) s q))
+      rw m.0 (walk_shows k _ refl (ap suc po) (ap suc po) (rest_tidy m.1) (byte_read r b bs (Ok (g, Passed)) s q))
   walk_shows {text} {raw} (walks.of_cell {g} {b} {bs} e k) r pf po pp t q =
-      let s = stepped r b (To g OfCell) pf e in
+      let s = stepped r b (Ok (g, OfCell)) pf e in
       let m : Tidy (stage_of d g) text raw r.cells = rw (cell_stage (its_transition s)) tidy_cell in
-      walk_shows k _ refl (ap suc po) pp m (byte_read r b bs (To g OfCell) s q)
+      walk_shows k _ refl (ap suc po) pp m (byte_read r b bs (Ok (g, OfCell)) s q)
   walk_shows (walks.between {g} {b} {bs} e k) r pf po pp t q =
-      let s = stepped r b (To g (Between false)) pf e in
-      walk_shows k _ refl (ap suc po) (ap suc po) (parted_tidy (moved_between (its_transition s) t)) (byte_read r b bs (To g (Between false)) s q)
+      let s = stepped r b (Ok (g, Between false)) pf e in
+      walk_shows k _ refl (ap suc po) (ap suc po) (parted_tidy (moved_between (its_transition s) t)) (byte_read r b bs (Ok (g, Between false)) s q)
   walk_shows {text} (walks.between_closing {g} {b} {bs} {ps} {ss} e k) r pf po pp t q =
-      let s = stepped r b (To g (Between true)) pf e in
+      let s = stepped r b (Ok (g, Between true)) pf e in
       let m = recording_tidy {text = text} (between_stage (its_transition s)) in
-      walk_shows k _ refl (ap suc po) (ap suc po) m (byte_read r b bs (To g (Between true)) s q) ∙ ap (λ z. shown r.done ++ z) (closing_onto r ps ss po pp)
+      walk_shows k _ refl (ap suc po) (ap suc po) m (byte_read r b bs (Ok (g, Between true)) s q) ∙ ap (λ z. shown r.done ++ z) (closing_onto r ps ss po pp)
   walk_shows (walks.tail {g} {b} {bs} e k) r pf po pp t q =
-      let s = stepped r b (To g (Tail false)) pf e in
-      walk_shows k _ refl (ap suc po) (ap suc po) (parted_tidy (moved_tail (its_transition s) t)) (byte_read r b bs (To g (Tail false)) s q)
+      let s = stepped r b (Ok (g, Tail false)) pf e in
+      walk_shows k _ refl (ap suc po) (ap suc po) (parted_tidy (moved_tail (its_transition s) t)) (byte_read r b bs (Ok (g, Tail false)) s q)
   walk_shows {text} (walks.tail_closing {g} {b} {bs} {ps} {ss} e k) r pf po pp t q =
-      let s = stepped r b (To g (Tail true)) pf e in
+      let s = stepped r b (Ok (g, Tail true)) pf e in
       let m = recording_tidy {text = text} (tail_stage (its_transition s)) in
-      walk_shows k _ refl (ap suc po) (ap suc po) m (byte_read r b bs (To g (Tail true)) s q) ∙ ap (λ z. shown r.done ++ z) (closing_onto r ps ss po pp)
+      walk_shows k _ refl (ap suc po) (ap suc po) m (byte_read r b bs (Ok (g, Tail true)) s q) ∙ ap (λ z. shown r.done ++ z) (closing_onto r ps ss po pp)
   walk_shows (walks.ends {g} {b} {bs} {ss} e k) r pf po pp t q =
-      let s = stepped r b (To g (Ends false)) pf e in
+      let s = stepped r b (Ok (g, Ends false)) pf e in
       let made : Rec = record { start = r.start; size = r.size; cells = r.cells } in
       let next : Read = between_records (r.done ++ (made ∷ [])) g (suc r.offset) in
       let m = rest_tidy (ends_stage (its_transition s)) in
       walk_shows k next refl (ap suc po) (ap suc po) m
-      (verdict_read r next bs (record_fault d none r.done r.cells) (byte_read r b bs (To g (Ends false)) s q))
+      (verdict_read r next bs (record_fault d None r.done r.cells) (byte_read r b bs (Ok (g, Ends false)) s q))
       ∙ record_onto r.done made ss
   walk_shows (walks.ends_closing {g} {b} {bs} {ss} e k) r pf po pp t q =
-      let s = stepped r b (To g (Ends true)) pf e in
+      let s = stepped r b (Ok (g, Ends true)) pf e in
       let made : Rec = record { start = r.start; size = r.size; cells = closing d true r } in
       let next : Read = between_records (r.done ++ (made ∷ [])) g (suc r.offset) in
       let m = rest_tidy (ends_stage (its_transition s)) in
       walk_shows k next refl (ap suc po) (ap suc po) m
-      (verdict_read r next bs (record_fault d none r.done (closing d true r)) (byte_read r b bs (To g (Ends true)) s q)) ∙
+      (verdict_read r next bs (record_fault d None r.done (closing d true r)) (byte_read r b bs (Ok (g, Ends true)) s q)) ∙
       record_onto r.done made ss ∙ ap (λ z. shown r.done ++ z) (closing_onto r [] ss po pp)
 
 -- the reader's spans are those of every derivation
 pub same_spans :
-    (d : Dialect) (xs : Bytes) (ls : List (Line Derived)) (k : Derives d xs ls) (r : Read) → read_file d none xs ≡ going r →
+    (d : Dialect) (xs : Bytes) (ls : List (Line Derived)) (k : Derives d xs ls) (r : Read) → read_file d None xs ≡ going r →
     shown r.done ≡ stretches d xs ls k
 unfolding read_file read_bytes nothing_read
 same_spans d xs ls k r e = walk_shows d r (derived_runs d xs ls k) nothing_read refl refl refl tidy_rest e ∙ onto_none (stretches d xs ls k)
@@ -182,12 +182,12 @@ answered_cells (h ∷ rs) room e = go (ltb room (length (concat (rows (h ∷ rs)
 
 -- the cells that it returns lie, in file order, where every derivation has them
 pub reader_spans :
-    (n : ℕ) (d : Dialect) (xs : Bytes) (room : ℕ) (ls : List (Line Derived)) (k : Derives d xs ls) → dialect_of n ≡ some d →
+    (n : ℕ) (d : Dialect) (xs : Bytes) (room : ℕ) (ls : List (Line Derived)) (k : Derives d xs ls) → dialect_of n ≡ Some d →
     (reader n xs room).report ≡ accepted → map span_of (reader n xs room).cells ≡ concat (stretches d xs ls k)
 unfolding reader
-reader_spans n d xs room ls k dialect e = rw (dialect, reader) (go (read_file d none xs) refl (rw (dialect, reader) at e))
+reader_spans n d xs room ls k dialect e = rw (dialect, reader) (go (read_file d None xs) refl (rw (dialect, reader) at e))
   where
-    go : (p : Progress) → read_file d none xs ≡ p → (read_answer p room).report ≡ accepted → map span_of (read_answer p room).cells ≡ concat (stretches d xs ls k)
+    go : (p : Progress) → read_file d None xs ≡ p → (read_answer p room).report ≡ accepted → map span_of (read_answer p room).cells ≡ concat (stretches d xs ls k)
     go (going r) q e =
         ap (map span_of) (answered_cells r.done room e) ∙ rows_spans r.done ∙ ap concat (same_spans d xs ls k r q)
     go (stopped x r) q e = stopped_going (accepted_going (stopped x r) e).1

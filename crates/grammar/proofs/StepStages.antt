@@ -6,7 +6,7 @@ use mathlib.Core.Path.{◌≡◌, refl}
 use mathlib.Core.Bool.{Bool, false}
 use Rattle.grammar.specs.rfc.Types.{Dialect, Csvj, Tdif, CsvPlus}
 use Rattle.grammar.specs.rfc.Types.{FileState, Top, Begin, Ended, Bom1, Bom2, PlainBom1, PlainBom2, Comment, Blanks, ExpectCell, Inside, After}
-use Rattle.grammar.specs.rfc.Types.{Cr, Outside, Passed, OfCell, Between, Tail, Ends, To}
+use Rattle.grammar.specs.rfc.Types.{Cr, Outside, Passed, OfCell, Between, Tail, Ends, Ok}
 use Rattle.model.proofs.file_laws.FileSteps as steps
 use Rattle.model.proofs.file_laws.FileSteps.{Rests, Around, Grown, Free, Opens, Next, Leaves, Transition, starts_free}
 
@@ -97,37 +97,37 @@ leaves_no_cell {d} (steps.none e) = free_no_cell d e
 -- ---- the stages before and after a byte of each role
 
 module _ {d : Dialect} {f : FileState} {b : ℕ} where
-  pub outside_rests : {h : FileState} → Transition d f b (To h Outside) → (stage_of d f ≡ at_rest) × (stage_of d h ≡ at_rest)
+  pub outside_rests : {h : FileState} → Transition d f b (Ok (h, Outside)) → (stage_of d f ≡ at_rest) × (stage_of d h ≡ at_rest)
   outside_rests (steps.outside t r g) = (around_stage r, rests_stage d g)
 
-  pub passed_rests : {h : FileState} → Transition d f b (To h Passed) → (stage_of d f ≡ at_rest) × (stage_of d h ≡ at_rest)
+  pub passed_rests : {h : FileState} → Transition d f b (Ok (h, Passed)) → (stage_of d f ≡ at_rest) × (stage_of d h ≡ at_rest)
   passed_rests (steps.passes t r g) = (rests_stage d r, next_stage d g)
 
-  pub cell_stage : {h : FileState} → Transition d f b (To h OfCell) → stage_of d h ≡ in_cell_lem
+  pub cell_stage : {h : FileState} → Transition d f b (Ok (h, OfCell)) → stage_of d h ≡ in_cell_lem
   cell_stage (steps.adds t n c g i s) = grown_stage d g
 
-  pub between_stage : {h : FileState} {k : Bool} → Transition d f b (To h (Between k)) → Recording (stage_of d h)
+  pub between_stage : {h : FileState} {k : Bool} → Transition d f b (Ok (h, Between k)) → Recording (stage_of d h)
   between_stage (steps.blanks t n e c) = rw c record_open
   between_stage (steps.parts t n l o) = opens_stage d o
 
-  pub tail_stage : {h : FileState} {k : Bool} → Transition d f b (To h (Tail k)) → Recording (stage_of d h)
+  pub tail_stage : {h : FileState} {k : Bool} → Transition d f b (Ok (h, Tail k)) → Recording (stage_of d h)
   tail_stage (steps.turns t p l) = record_open
 
-  pub ends_next : {h : FileState} {k : Bool} → Transition d f b (To h (Ends k)) → Next h
+  pub ends_next : {h : FileState} {k : Bool} → Transition d f b (Ok (h, Ends k)) → Next h
   ends_next (steps.ends t p l g) = g
   ends_next (steps.ends_cr t e p) = steps.n_begin
 
-  pub ends_stage : {h : FileState} {k : Bool} → Transition d f b (To h (Ends k)) → stage_of d h ≡ at_rest
+  pub ends_stage : {h : FileState} {k : Bool} → Transition d f b (Ok (h, Ends k)) → stage_of d h ≡ at_rest
   ends_stage x = next_stage d (ends_next x)
 
   -- a cell is left only by closing it
-  pub between_no_cell : {h : FileState} → Transition d f b (To h (Between false)) → NoCell (stage_of d f)
+  pub between_no_cell : {h : FileState} → Transition d f b (Ok (h, Between false)) → NoCell (stage_of d f)
   between_no_cell (steps.blanks t n e c) = free_no_cell d (starts_free e)
   between_no_cell (steps.parts t n l o) = leaves_no_cell l
 
-  pub tail_no_cell : {h : FileState} → Transition d f b (To h (Tail false)) → NoCell (stage_of d f)
+  pub tail_no_cell : {h : FileState} → Transition d f b (Ok (h, Tail false)) → NoCell (stage_of d f)
   tail_no_cell (steps.turns t p l) = leaves_no_cell l
 
-  pub ends_no_cell : {h : FileState} → Transition d f b (To h (Ends false)) → NoCell (stage_of d f)
+  pub ends_no_cell : {h : FileState} → Transition d f b (Ok (h, Ends false)) → NoCell (stage_of d f)
   ends_no_cell (steps.ends t p l g) = leaves_no_cell l
   ends_no_cell (steps.ends_cr t e p) = rw e none_in_record

@@ -3,11 +3,11 @@ use Prim.Native.Nat.{ℕ, ◌+◌, ◌≤◌}
 use mathlib.Core.Path.{◌≡◌}
 use mathlib.Core.Logic.{◌↔◌}
 use mathlib.Core.Bool.{true, false}
-use mathlib.Core.Option.{Option, none, some}
+use Rattle.std.specs.Prelude.{Option, None, Some}
 use mathlib.Core.List.{List, [], ◌∷◌, map}
 use lib.ListN.{length}
 use Rattle.grammar.specs.rfc.Types.{Dialect, Target, Whole}
-use Rattle.model.specs.declared.CellCheck.TheVariants.{WholeCell}
+use Rattle.std.specs.Prelude.{Ok}
 use Rattle.model.specs.rules.Base.{Bytes, concat}
 use Rattle.model.specs.rules.Dialect.{dialect_of, standard}
 use Rattle.model.specs.rules.Utf8.{text_from}
@@ -47,7 +47,7 @@ pub textdata : (b : ℕ) → NarrowTEXTDATA (b ∷ []) ↔ (TEXTDATA standard (b
 textdata = textdata_exact
 
 -- the decoder accepts a raw cell exactly when the grammar derives it
-pub cells : (d : Dialect) (raw : Bytes) → DerivesCell d (decoded d raw) ↔ (validate_cell d raw ≡ WholeCell)
+pub cells : (d : Dialect) (raw : Bytes) → DerivesCell d (decoded d raw) ↔ (validate_cell d raw ≡ Ok tt)
 cells = cell_exact
 
 -- a derivation's kind and content, by its own rules, are the decoder's
@@ -63,18 +63,18 @@ pub one_meaning : (d : Dialect) (xs : Bytes) (ls ms : List (Line Derived)) → D
 one_meaning = unambiguous
 
 -- a file is accepted exactly when it is derived and the limits and the record checks hold
-pub accepted_exactly : (d : Dialect) (xs : Bytes) → (report_of (read_file d none xs) ≡ accepted) ↔ ((ls : List (Line Derived)) × Acceptable d xs ls)
+pub accepted_exactly : (d : Dialect) (xs : Bytes) → (report_of (read_file d None xs) ≡ accepted) ↔ ((ls : List (Line Derived)) × Acceptable d xs ls)
 accepted_exactly = acceptance
 
 -- the records that were read are then those of the derivation: kinds, contents, and spans that are the raw cells
 pub same_records :
-    (d : Dialect) (xs : Bytes) (ls : List (Line Derived)) → Derives d xs ls → (r : Read) → read_file d none xs ≡ going r →
+    (d : Dialect) (xs : Bytes) (ls : List (Line Derived)) → Derives d xs ls → (r : Read) → read_file d None xs ≡ going r →
     Each (ShowsRecord xs) r.done ls
 same_records = accepted_records
 
 -- and each cell lies where the derivation's texts place it: one position runs through all of them
 pub spans_exactly :
-    (d : Dialect) (xs : Bytes) (ls : List (Line Derived)) (k : Derives d xs ls) (r : Read) → read_file d none xs ≡ going r →
+    (d : Dialect) (xs : Bytes) (ls : List (Line Derived)) (k : Derives d xs ls) (r : Read) → read_file d None xs ≡ going r →
     shown r.done ≡ stretches d xs ls k
 spans_exactly = same_spans
 
@@ -84,13 +84,13 @@ positions = past_length
 
 -- the reader's call, by a dialect's number and with lists of this length
 pub reader_exactly :
-    (n : ℕ) (d : Dialect) (xs : Bytes) (room : ℕ) → dialect_of n ≡ some d →
+    (n : ℕ) (d : Dialect) (xs : Bytes) (room : ℕ) → dialect_of n ≡ Some d →
     ((reader n xs room).report ≡ accepted) ↔ ((ls : List (Line Derived)) × Acceptable d xs ls × (cell_count ls ≤ room))
 reader_exactly = reader_acceptance
 
 -- and the cells that it returns lie, in file order, where the derivation's texts place them
 pub reader_places :
-    (n : ℕ) (d : Dialect) (xs : Bytes) (room : ℕ) (ls : List (Line Derived)) (k : Derives d xs ls) → dialect_of n ≡ some d →
+    (n : ℕ) (d : Dialect) (xs : Bytes) (room : ℕ) (ls : List (Line Derived)) (k : Derives d xs ls) → dialect_of n ≡ Some d →
     (reader n xs room).report ≡ accepted → map span_of (reader n xs room).cells ≡ concat (stretches d xs ls k)
 reader_places = reader_spans
 

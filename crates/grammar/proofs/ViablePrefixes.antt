@@ -5,9 +5,9 @@ use Prim.Native.Nat.{ℕ}
 use mathlib.Core.Path.{◌≡◌, refl}
 use mathlib.Core.Logic.{◌↔◌}
 use mathlib.Core.Bool.{Bool, true, false}
-use mathlib.Core.Option.{Option}
+use Rattle.std.specs.Prelude.{Option}
 use mathlib.Core.List.{List, [], ◌∷◌, ◌++◌, map, append_assoc}
-use Rattle.grammar.specs.rfc.Types.{Dialect, Target, FileState, Top, Outside, Passed, OfCell, Between, Tail, Ends, To, Clean}
+use Rattle.grammar.specs.rfc.Types.{Dialect, Target, FileState, Top, Outside, Passed, OfCell, Between, Tail, Ends, Ok, Clean}
 use Rattle.model.specs.declared.ByteRole.{ByteRole}
 use Rattle.model.specs.rules.Base.{Bytes}
 use Rattle.model.specs.rules.File.{file_step, file_end}
@@ -40,20 +40,20 @@ module _ (d : Dialect) where
   Told f h b bs = (text : Bytes) (cells : List Bytes) (ls : List (Line Bytes)) → Reads d h bs (line text cells ∷ ls) → Recorded d f (b ∷ bs)
 
   module _ {f h : FileState} (b : ℕ) (bs : Bytes) where
-    of_cell_reads : file_step d f b ≡ To h OfCell → stage_of d h ≡ in_cell_lem → Recorded d h bs → Recorded d f (b ∷ bs)
+    of_cell_reads : file_step d f b ≡ Ok (h, OfCell) → stage_of d h ≡ in_cell_lem → Recorded d h bs → Recorded d f (b ∷ bs)
     of_cell_reads e g (recorded l ls r) = go r (reads_cell d r g)
       where
         go : {ls : List (Line Bytes)} → Reads d h bs ls → HasCell ls → Recorded d f (b ∷ bs)
         go r has_cell = recorded _ _ (reading.of_cell e r)
 
-    last_reads : (k : Bool) → file_step d f b ≡ To h (Ends k) → Next h → Recorded d f (b ∷ [])
+    last_reads : (k : Bool) → file_step d f b ≡ Ok (h, Ends k) → Next h → Recorded d f (b ∷ [])
     last_reads true e n = recorded _ _ (reading.ends_closing e (reading.ends_clean (next_clean d n)))
     last_reads false e n = recorded _ _ (reading.ends e (reading.ends_clean (next_clean d n)))
 
     record_reads : Told f h b bs → Recorded d h bs → Recorded d f (b ∷ bs)
     record_reads k (recorded (line text cells) ls r) = k text cells ls r
 
-    next_reads : (k : Bool) → file_step d f b ≡ To h (Ends k) → Recorded d h bs → Recorded d f (b ∷ bs)
+    next_reads : (k : Bool) → file_step d f b ≡ Ok (h, Ends k) → Recorded d h bs → Recorded d f (b ∷ bs)
     next_reads true e (recorded l ls r) = recorded _ _ (reading.ends_closing e r)
     next_reads false e (recorded l ls r) = recorded _ _ (reading.ends e r)
 
@@ -77,7 +77,7 @@ module _ (d : Dialect) where
   data Completed (f : FileState) (xs : Bytes) : Type 0 where
     by_adding : (ws : Bytes) → Completes d f (xs ++ ws) → Completed f xs
 
-  next : {f g : FileState} {p : ByteRole} {b : ℕ} {bs : Bytes} → file_step d f b ≡ To g p → Completed g bs → Completed f (b ∷ bs)
+  next : {f g : FileState} {p : ByteRole} {b : ℕ} {bs : Bytes} → file_step d f b ≡ Ok (g, p) → Completed g bs → Completed f (b ∷ bs)
   next e (by_adding ws k) = by_adding ws (onward e k)
 
   any_state : (f : FileState) → Completed f []

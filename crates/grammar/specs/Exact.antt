@@ -1,6 +1,6 @@
 -- The theorems about the grammars as one statement.
 use Rattle.std.specs.Prelude.{ℕ, ◌≡◌, ◌↔◌, false, List}
-use Rattle.std.proofs.Math.Option.{Option, none}
+use Rattle.std.specs.Prelude.{Option, None}
 use Rattle.grammar.specs.rfc.Types.{Target, Dialect}
 use Rattle.model.specs.rules.Base.{Bytes}
 use Rattle.model.specs.rules.Report.{accepted}
@@ -18,7 +18,7 @@ pub record Exact : Type 0 where
   -- a derivation's kind and content are the decoder's
   pub contents : (d : Dialect) (c : Derived) → DerivesCell d c → c ≡ decoded d (raw_of c)
   -- a file is accepted exactly when it is derived and the limits and the record checks hold
-  pub acceptance : (d : Dialect) (xs : Bytes) → (report_of (read_file d none xs) ≡ accepted) ↔ ((ls : List (Line Derived)) × Acceptable d xs ls)
+  pub acceptance : (d : Dialect) (xs : Bytes) → (report_of (read_file d None xs) ≡ accepted) ↔ ((ls : List (Line Derived)) × Acceptable d xs ls)
   -- a byte after bytes that were read, within the limits, is fault 2 or 3 exactly when no derivation's text begins so
   pub next_byte :
       (d : Dialect) (target : Option Target) (xs : Bytes) (r : Read) (b : ℕ) → read_bytes d target xs ≡ going r → file_full r ≡ false →
@@ -28,5 +28,5 @@ pub record Exact : Type 0 where
 pub record ExactPlaces : Type 0 where
   -- the cells of a file that was read lie where every derivation of it has them
   pub stretches :
-      (d : Dialect) (xs : Bytes) (ls : List (Line Derived)) (k : Derives d xs ls) (r : Read) → read_file d none xs ≡ going r →
+      (d : Dialect) (xs : Bytes) (ls : List (Line Derived)) (k : Derives d xs ls) (r : Read) → read_file d None xs ≡ going r →
       shown r.done ≡ stretches d xs ls k

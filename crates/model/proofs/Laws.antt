@@ -1,5 +1,5 @@
 -- The laws of the definitions, each from the file that proves it.
-use mathlib.Core.Option.{Option}
+use Rattle.std.specs.Prelude.{Option}
 use Rattle.model.specs.rules.Types.{Dialect, Target}
 use Rattle.model.specs.rules.Records.{going, nothing_read, read_bytes}
 use Rattle.model.specs.laws.Laws.{ReadingLaws, Laws}

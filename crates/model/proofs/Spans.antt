@@ -5,14 +5,14 @@ use native.Mathlib.Omega.{arith}
 use native.Mathlib.Nat.{add-zero}
 use mathlib.Core.Path.{◌≡◌, refl, sym, ap, ◌∙◌}
 use mathlib.Core.Bool.{Bool, true, false}
-use mathlib.Core.Option.{Option, none, some}
+use Rattle.std.specs.Prelude.{Option, None, Some}
 use mathlib.Core.List.{List, [], ◌∷◌, ◌++◌, append_assoc}
 use lib.Seq.{take-append_seam, drop-append_seam}
 use lib.ListN.{length, length-append}
 use lib.Dec.{ltb}
 use borrow.Author.Tests.{le-ltb}
-use Rattle.model.specs.rules.Types.{Dialect, Target, Fresh, FileState, Outside, Passed, OfCell, Between, Tail, Ends, Step, To, Reject, Ending}
-use Rattle.model.specs.rules.Types.{Clean, Final, Cut, Fault, CheckResult, Sound, Faulty, WholeCell}
+use Rattle.model.specs.rules.Types.{Dialect, Target, Fresh, FileState, Outside, Passed, OfCell, Between, Tail, Ends, Step, Ok, Err, Ending}
+use Rattle.model.specs.rules.Types.{Clean, Final, Cut, Fault, CheckResult}
 use Rattle.model.specs.rules.Base.{Bytes, concat, choose◌then◌else◌}
 use Rattle.model.specs.rules.Dialect.{dialect_of}
 use Rattle.model.specs.rules.File.{file_step, file_end}
@@ -40,7 +40,7 @@ part_is pre raw xs s e h k =
 
 -- the span of a cell holds a cell that the decoder accepts, with its kind and content
 pub record Stretched (d : Dialect) (file : Bytes) (v : Value) : Type 0 where
-  pub sound : validate_cell d (slice file v.from v.upto) ≡ WholeCell
+  pub sound : validate_cell d (slice file v.from v.upto) ≡ Ok tt
   pub kind : v.kind ≡ kind_of d (slice file v.from v.upto)
   pub content : v.content ≡ content_of d (slice file v.from v.upto)
 
@@ -123,8 +123,8 @@ module _ (d : Dialect) (target : Option Target) (file : Bytes) where
       }
 
   validated_good : (r next : Read) (left : Bytes) (v : CheckResult) → All (StretchedRecord d file) r.done → At next left → Good (validated r next v) left
-  validated_good r next left Sound h i = good_going i
-  validated_good r next left (Faulty e) h i = good_stopped h
+  validated_good r next left (Ok _) h i = good_going i
+  validated_good r next left (Err e) h i = good_stopped h
 
   complete_good :
       (r : Read) (b : ℕ) (left : Bytes) (vs : List Value) (f : FileState) → At r (b ∷ left) → All (Stretched d file) vs → cell_at f ≡ Fresh →
@@ -135,13 +135,13 @@ module _ (d : Dialect) (target : Option Target) (file : Bytes) where
 
   move_good : (r : Read) (b : ℕ) (left : Bytes) (s : Step) → At r (b ∷ left) → Fits d (cell_at r.state) b s → Good (move d target r b s) left
   unfolding move
-  move_good r b left (Reject e) a rejects = good_stopped a.done
-  move_good r b left (To f Outside) a (leaves e) = good_going (moved r _ b left a refl refl refl e all_none a.done)
-  move_good r b left (To f Passed) a (passes e) = good_going (moved r _ b left a refl refl refl e all_none a.done)
-  move_good r b left (To f OfCell) a (adds e) = good_going (added r b left f (suc r.size) a (snoc b a.runs e))
-  move_good r b left (To f (Between k)) a (parts e w) = good_going (moved r _ b left a refl refl refl e (closed_cells r (b ∷ left) k a w) a.done)
-  move_good r b left (To f (Tail k)) a (turns e w) = good_going (moved r _ b left a refl refl refl e (closed_cells r (b ∷ left) k a w) a.done)
-  move_good r b left (To f (Ends k)) a (completes e w) = complete_good r b left (closing d k r) f a (closed_cells r (b ∷ left) k a w) e
+  move_good r b left (Err e) a rejects = good_stopped a.done
+  move_good r b left (Ok (f, Outside)) a (leaves e) = good_going (moved r _ b left a refl refl refl e all_none a.done)
+  move_good r b left (Ok (f, Passed)) a (passes e) = good_going (moved r _ b left a refl refl refl e all_none a.done)
+  move_good r b left (Ok (f, OfCell)) a (adds e) = good_going (added r b left f (suc r.size) a (snoc b a.runs e))
+  move_good r b left (Ok (f, Between k)) a (parts e w) = good_going (moved r _ b left a refl refl refl e (closed_cells r (b ∷ left) k a w) a.done)
+  move_good r b left (Ok (f, Tail k)) a (turns e w) = good_going (moved r _ b left a refl refl refl e (closed_cells r (b ∷ left) k a w) a.done)
+  move_good r b left (Ok (f, Ends k)) a (completes e w) = complete_good r b left (closing d k r) f a (closed_cells r (b ∷ left) k a w) e
 
   byte_good : (r : Read) (b : ℕ) (left : Bytes) → At r (b ∷ left) → Good (read_byte d target r b) left
   unfolding read_byte
@@ -163,8 +163,8 @@ module _ (d : Dialect) (target : Option Target) (file : Bytes) where
   validated_done :
       (r next : Read) (v : CheckResult) → All (StretchedRecord d file) r.done → All (StretchedRecord d file) next.done →
       All (StretchedRecord d file) (records_of (validated r next v))
-  validated_done r next Sound h k = k
-  validated_done r next (Faulty e) h k = h
+  validated_done r next (Ok _) h k = k
+  validated_done r next (Err e) h k = h
 
   at_end : (r : Read) (x : Ending) → At r [] → EndsAfter d (cell_at r.state) x → All (StretchedRecord d file) (records_of (end_at d target r x))
   unfolding complete
@@ -214,7 +214,7 @@ cells_sound_file d target xs = sound_records (stretches d target xs)
 
 -- ---- the decoder on a span
 
-decodes : (n : ℕ) (d : Dialect) (file : Bytes) (v : Value) → dialect_of n ≡ some d → Stretched d file v → Decodes n file v
+decodes : (n : ℕ) (d : Dialect) (file : Bytes) (v : Value) → dialect_of n ≡ Some d → Stretched d file v → Decodes n file v
 unfolding decoder choose◌then◌else◌
 decodes n d file v e s =
     rw (e, decoder) (rw (s.sound, ← s.kind, ← s.content, le-ltb (length v.content) (length v.content) (omega arith)))
@@ -224,7 +224,7 @@ all_append all_none k = k
 all_append (all_cons p ps) k = all_cons p (all_append ps k)
 
 concat_decodes :
-    (n : ℕ) (d : Dialect) (file : Bytes) → dialect_of n ≡ some d → {ds : List Rec} → All (StretchedRecord d file) ds →
+    (n : ℕ) (d : Dialect) (file : Bytes) → dialect_of n ≡ Some d → {ds : List Rec} → All (StretchedRecord d file) ds →
     All (Decodes n file) (concat (rows ds))
 unfolding concat rows
 concat_decodes n d file e all_none = all_none
@@ -241,7 +241,7 @@ answered_decodes n file [] vs room k = all_none
 answered_decodes n file (h ∷ rs) vs room k = split (λ (a : Answer). All (Decodes n file) a.cells) (ltb room (length vs)) (λ _. all_none) λ _. k
 
 answer_decodes :
-    (n : ℕ) (d : Dialect) (file : Bytes) (room : ℕ) (p : Progress) → dialect_of n ≡ some d → All (StretchedRecord d file) (records_of p) →
+    (n : ℕ) (d : Dialect) (file : Bytes) (room : ℕ) (p : Progress) → dialect_of n ≡ Some d → All (StretchedRecord d file) (records_of p) →
     All (Decodes n file) (read_answer p room).cells
 answer_decodes n d file room (stopped e r) k s = all_none
 answer_decodes n d file room (going r) k s = answered_decodes n file r.done (concat (rows r.done)) room (concat_decodes n d file k s)
@@ -254,6 +254,6 @@ reader_decodes n file room = go (dialect_of n) refl
     go :
         (o : Option Dialect) → dialect_of n ≡ o →
         All (Decodes n file)
-        (elim o as (λ _. Answer) [ none ↦ no_answer (refusal 11) | some d ↦ read_answer (read_file d none file) room ]).cells
-    go none e = all_none
-    go (some d) e = answer_decodes n d file room (read_file d none file) e (stretches d none file)
+        (elim o as (λ _. Answer) [ None ↦ no_answer (refusal 11) | Some d ↦ read_answer (read_file d None file) room ]).cells
+    go None e = all_none
+    go (Some d) e = answer_decodes n d file room (read_file d None file) e (stretches d None file)

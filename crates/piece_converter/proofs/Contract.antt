@@ -4,7 +4,7 @@ use Prim.Native.Nat.{ℕ, ◌≤◌}
 use native.Mathlib.Omega.{arith}
 use mathlib.Core.Path.{◌≡◌, refl, sym, ap, subst, ◌∙◌}
 use mathlib.Core.Bool.{true, false}
-use mathlib.Core.Option.{Option, none, some}
+use Rattle.std.specs.Prelude.{Option, None, Some}
 use mathlib.Core.List.{List, [], ◌∷◌, ◌++◌, append-nil}
 use lib.ListN.{length}
 use Rattle.model.specs.declared.Report.{Report}
@@ -57,8 +57,8 @@ unfolding consumed_in choose◌then◌else◌
 consumed_unknown past c = go (ledger.fault_in past) refl
   where
     go : (x : Option Report) → ledger.fault_in past ≡ x → consumed_in (past ++ entry c (unwritten (refusal 11))) ≡ consumed_in past
-    go (some e) k = consumed_some (entry c (unwritten (refusal 11))) e past k
-    go none k = consumed_none (entry c (unwritten (refusal 11))) past k ∙ append-nil (consumed_in past)
+    go (Some e) k = consumed_some (entry c (unwritten (refusal 11))) e past k
+    go None k = consumed_none (entry c (unwritten (refusal 11))) past k ∙ append-nil (consumed_in past)
 
 -- a call that is taken consumes its bytes, also where it meets a fault
 consumed_last : (t : Target) (text : Bytes) (c : Call) (q : Progress) → consumed_in (entry c (taken t text q)) ≡ bytes_of c
@@ -83,10 +83,10 @@ consumed_then_lem d t past ended c (stood_ended r k e b x) = consumed_none (entr
 -- what a call does, by the state's stage
 record Stepped (s : Converter) (c : Call) (out : List ℕ) (told : TextAnswer) (next : Converter) (out' : List ℕ) : Type 0 where
   known :
-      (m n : ℕ) (d t : Dialect) (w : ConverterStage) (consumed : Bytes) → dialect_of m ≡ some d → dialect_of n ≡ some t → Models consumed m n w s →
+      (m n : ℕ) (d t : Dialect) (w : ConverterStage) (consumed : Bytes) → dialect_of m ≡ Some d → dialect_of n ≡ Some t → Models consumed m n w s →
       Says told out out' (answer_at d (into t) w c) × Models (consumed_then w c consumed) m n (stage_after d (into t) w c) next × (checked_at w c ≡ true → next ≡ s)
-  source : (m n : ℕ) (consumed : Bytes) → dialect_of m ≡ none → Models consumed m n ended s → Says told out out' (unwritten (refusal 11)) × (next ≡ s)
-  target : (m n : ℕ) (consumed : Bytes) → dialect_of n ≡ none → Models consumed m n ended s → Says told out out' (unwritten (refusal 11)) × (next ≡ s)
+  source : (m n : ℕ) (consumed : Bytes) → dialect_of m ≡ None → Models consumed m n ended s → Says told out out' (unwritten (refusal 11)) × (next ≡ s)
+  target : (m n : ℕ) (consumed : Bytes) → dialect_of n ≡ None → Models consumed m n ended s → Says told out out' (unwritten (refusal 11)) × (next ≡ s)
 
 -- the check of a call, by the numbers of a state
 abbrev pub check_of : Converter → Call → CallCheck
@@ -157,12 +157,12 @@ module _ (s : Converter) (c : Call) (out : List ℕ) (told : TextAnswer) (next :
 
 -- ---- what a check means
 
-none_known : {A : Type 0} (o : Option Dialect) (d : Dialect) → o ≡ none → o ≡ some d → A
+none_known : {A : Type 0} (o : Option Dialect) (d : Dialect) → o ≡ None → o ≡ Some d → A
 none_known o d p q = let z : ◌≡◌ {A = ℕ} 0 1 = cc in absurd (omega arith)
 
 -- the numbers of a state encode its stage
 stage_reports :
-    {m n : ℕ} {consumed : Bytes} {w : ConverterStage} {s : Converter} (d t : Dialect) → dialect_of m ≡ some d → dialect_of n ≡ some t →
+    {m n : ℕ} {consumed : Bytes} {w : ConverterStage} {s : Converter} (d t : Dialect) → dialect_of m ≡ Some d → dialect_of n ≡ Some t →
     StageOf m n consumed w s → StageEncoded w s.fault s.ended
 stage_reports d t p q (stage_taking d' t' done k p' q' reads tells takes) = tells
 stage_reports d t p q (stage_faulted tells) = tells
@@ -171,7 +171,7 @@ stage_reports {m} d t p q (stage_no_source none-m) = none_known (dialect_of m) d
 stage_reports {n = n} d t p q (stage_no_target none-n) = none_known (dialect_of n) t none-n q
 
 means :
-    (s : Converter) (c : Call) (m n : ℕ) (d t : Dialect) (w : ConverterStage) (consumed : Bytes) → dialect_of m ≡ some d → dialect_of n ≡ some t →
+    (s : Converter) (c : Call) (m n : ℕ) (d t : Dialect) (w : ConverterStage) (consumed : Bytes) → dialect_of m ≡ Some d → dialect_of n ≡ Some t →
     Models consumed m n w s →
     CallCheckSound d t w c (check_of s c)
 means s c m n d t w consumed p q h =
@@ -184,13 +184,13 @@ means s c m n d t w consumed p q h =
     (checks_mean m n d t w s.fault s.ended c p q (stage_reports d t p q h.stage)))
 
 source_unknown :
-    (s : Converter) (c : Call) (m n : ℕ) (w : ConverterStage) (consumed : Bytes) → dialect_of m ≡ none → Models consumed m n w s →
+    (s : Converter) (c : Call) (m n : ℕ) (w : ConverterStage) (consumed : Bytes) → dialect_of m ≡ None → Models consumed m n w s →
     check_of s c ≡ checks.Refused (refusal 11)
 source_unknown s c m n w consumed p h =
     unknown_source s.source s.target s.fault s.ended (length (bytes_of c)) (room_of c) (ap dialect_of h.source ∙ p)
 
 target_unknown :
-    (s : Converter) (c : Call) (m n : ℕ) (w : ConverterStage) (consumed : Bytes) → dialect_of n ≡ none → Models consumed m n w s →
+    (s : Converter) (c : Call) (m n : ℕ) (w : ConverterStage) (consumed : Bytes) → dialect_of n ≡ None → Models consumed m n w s →
     check_of s c ≡ checks.Refused (refusal 11)
 target_unknown s c m n w consumed q h =
     unknown_target s.source s.target s.fault s.ended (length (bytes_of c)) (room_of c) (ap dialect_of h.target ∙ q)
@@ -270,7 +270,7 @@ record Holds (d t : Dialect) (consumed : Bytes) (s : Converter) (w : ConverterSt
   takes : Takes d t consumed s done k
 
 holds :
-    {m n : ℕ} {consumed : Bytes} {w : ConverterStage} {s : Converter} (d t : Dialect) (r : Read) → dialect_of m ≡ some d → dialect_of n ≡ some t →
+    {m n : ℕ} {consumed : Bytes} {w : ConverterStage} {s : Converter} (d t : Dialect) (r : Read) → dialect_of m ≡ Some d → dialect_of n ≡ Some t →
     w ≡ taking r → StageOf m n consumed w s → Holds d t consumed s w
 holds {m} {n} {consumed} {w} {s} d t r p q z (stage_taking d' t' done k p' q' reads tells takes) =
     let from : d' ≡ d = cc in
@@ -294,7 +294,7 @@ module _ (s : Converter) (c : Call) (d t : Dialect) (h : check_of s c ≡ checks
   -- what it does, where the state takes bytes
   abbrev Takings : Type 0
   Takings =
-      (m n : ℕ) (consumed : Bytes) (done : List Rec) (k : Buffered) → dialect_of m ≡ some d → dialect_of n ≡ some t → Takes d t consumed s done k →
+      (m n : ℕ) (consumed : Bytes) (done : List Rec) (k : Buffered) → dialect_of m ≡ Some d → dialect_of n ≡ Some t → Takes d t consumed s done k →
       too_small c ≡ false →
       Says told out out' (taken (into t) (table_text (into t) (rows done)) (seen_from d (into t) (stood done k) c))
       × Left m n d t (consumed ++ bytes_of c) (stage_then (is_finish c) (seen_from d (into t) (stood done k) c)) next
@@ -302,7 +302,7 @@ module _ (s : Converter) (c : Call) (d t : Dialect) (h : check_of s c ≡ checks
   module _ (same : (next.source ≡ s.source) × (next.target ≡ s.target)) (within : told.length ≤ length out)
       (as_long : length out' ≡ length out) (step : Takings) where
     models_left :
-        (m n : ℕ) (bs : Bytes) (w : ConverterStage) → dialect_of m ≡ some d → dialect_of n ≡ some t → s.source ≡ m → s.target ≡ n →
+        (m n : ℕ) (bs : Bytes) (w : ConverterStage) → dialect_of m ≡ Some d → dialect_of n ≡ Some t → s.source ≡ m → s.target ≡ n →
         Left m n d t bs w next → Models bs m n w next
     models_left m n bs w p q e f x =
         record {
@@ -317,7 +317,7 @@ module _ (s : Converter) (c : Call) (d t : Dialect) (h : check_of s c ≡ checks
         }
 
     comes :
-        (m n : ℕ) (consumed : Bytes) (done : List Rec) (k : Buffered) → dialect_of m ≡ some d → dialect_of n ≡ some t → s.source ≡ m →
+        (m n : ℕ) (consumed : Bytes) (done : List Rec) (k : Buffered) → dialect_of m ≡ Some d → dialect_of n ≡ Some t → s.source ≡ m →
         s.target ≡ n → Takes d t consumed s done k → too_small c ≡ false → Comes m n d t consumed (taking (stood done k))
     unfolding answer_at stage_after choose◌then◌else◌
     comes m n consumed done k p q e f takes small =
@@ -333,13 +333,13 @@ module _ (s : Converter) (c : Call) (d t : Dialect) (h : check_of s c ≡ checks
         subst (λ (a : Dialect). Comes m n a t' consumed w) (sym from) (subst (λ (b : Dialect). Comes m n d b consumed w) (sym to) there)
 
     comes_known :
-        (m n : ℕ) (d' t' : Dialect) (w : ConverterStage) (consumed : Bytes) → dialect_of m ≡ some d' → dialect_of n ≡ some t' →
+        (m n : ℕ) (d' t' : Dialect) (w : ConverterStage) (consumed : Bytes) → dialect_of m ≡ Some d' → dialect_of n ≡ Some t' →
         Models consumed m n w s → Comes m n d' t' consumed w
     comes_known m n d' t' w consumed p q k =
         let x : TakenAt d' t' d t c w = taken_at d t (means s c m n d' t' w consumed p q k) h in
-        let y : Holds d t consumed s w = holds d t x.read (p ∙ ap some x.from) (q ∙ ap some x.to) x.stands k.stage in
+        let y : Holds d t consumed s w = holds d t x.read (p ∙ ap Some x.from) (q ∙ ap Some x.to) x.stands k.stage in
         let here : Comes m n d t consumed (taking (stood y.done y.k)) =
-        comes m n consumed y.done y.k (p ∙ ap some x.from) (q ∙ ap some x.to) k.source k.target y.takes x.sized in
+        comes m n consumed y.done y.k (p ∙ ap Some x.from) (q ∙ ap Some x.to) k.source k.target y.takes x.sized in
         as_named m n d' t' consumed w (taking (stood y.done y.k)) x.from x.to y.stands here
 
     -- no check refuses it

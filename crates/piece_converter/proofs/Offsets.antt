@@ -2,17 +2,16 @@
 use Prim.Native.Nat.{ℕ, suc, ◌+◌}
 use native.Mathlib.Omega.{arith}
 use mathlib.Core.Path.{◌≡◌, refl, subst}
-use mathlib.Core.Option.{Option}
+use Rattle.std.specs.Prelude.{Option}
 use mathlib.Core.List.{List, [], ◌∷◌}
 use lib.ListN.{length}
 use Rattle.model.specs.declared.Dialect.{Dialect}
 use Rattle.model.specs.declared.Target.{Target}
 use Rattle.model.specs.declared.Fault.{Fault}
 use Rattle.model.specs.declared.FileState.{FileState}
-use Rattle.model.specs.declared.CheckResult.{CheckResult}
-use Rattle.model.specs.declared.CheckResult.TheVariants.{Sound, Faulty}
-use Rattle.model.specs.declared.Step.{Step}
-use Rattle.model.specs.declared.Step.TheVariants.{To, Reject}
+use Rattle.model.specs.rules.Types.{CheckResult}
+use Rattle.std.specs.Prelude.{Ok, Err}
+use Rattle.model.specs.rules.Types.{Step}
 use Rattle.model.specs.declared.ByteRole.TheVariants.{Outside, Passed, OfCell, Between, Tail, Ends}
 use Rattle.model.specs.rules.Base.{Bytes}
 use Rattle.model.specs.rules.File.{file_step}
@@ -28,8 +27,8 @@ data LiesAt (n : ℕ) : Progress → Type 0 where
 
 module _ (d : Dialect) (target : Option Target) where
   validated_at : (before next : Read) (v : CheckResult) → LiesAt next.offset (validated before next v)
-  validated_at before next Sound = at_offset refl
-  validated_at before next (Faulty e) = at_fault
+  validated_at before next (Ok _) = at_offset refl
+  validated_at before next (Err e) = at_fault
 
   complete_at : (r : Read) (vs : List Value) (f : FileState) (o : ℕ) → LiesAt o (complete d target r vs f o)
   unfolding complete
@@ -37,13 +36,13 @@ module _ (d : Dialect) (target : Option Target) where
 
   move_at : (r : Read) (b : ℕ) (s : Step) → LiesAt (suc r.offset) (move d target r b s)
   unfolding move
-  move_at r b (Reject e) = at_fault
-  move_at r b (To f Outside) = at_offset refl
-  move_at r b (To f Passed) = at_offset refl
-  move_at r b (To f OfCell) = at_offset refl
-  move_at r b (To f (Between k)) = at_offset refl
-  move_at r b (To f (Tail k)) = at_offset refl
-  move_at r b (To f (Ends k)) = complete_at r (closing d k r) f (suc r.offset)
+  move_at r b (Err e) = at_fault
+  move_at r b (Ok (f, Outside)) = at_offset refl
+  move_at r b (Ok (f, Passed)) = at_offset refl
+  move_at r b (Ok (f, OfCell)) = at_offset refl
+  move_at r b (Ok (f, Between k)) = at_offset refl
+  move_at r b (Ok (f, Tail k)) = at_offset refl
+  move_at r b (Ok (f, Ends k)) = complete_at r (closing d k r) f (suc r.offset)
 
   byte_at : (r : Read) (b : ℕ) → LiesAt (suc r.offset) (read_byte d target r b)
   unfolding read_byte

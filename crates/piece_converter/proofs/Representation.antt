@@ -4,7 +4,7 @@ use Prim.Native.Nat.{ℕ, ◌≤◌, ◌<◌}
 use native.Mathlib.Omega.{arith}
 use mathlib.Core.Path.{◌≡◌, refl, sym, ap, ap₂, subst, ◌∙◌}
 use mathlib.Core.Bool.{Bool, true, false, ◌||◌}
-use mathlib.Core.Option.{Option, none, some}
+use Rattle.std.specs.Prelude.{Option, None, Some}
 use mathlib.Core.List.{List, [], ◌++◌, append-nil}
 use lib.ListN.{length, replicate, length-replicate}
 use lib.Dec.{ltb}
@@ -98,7 +98,7 @@ pub record Left (m n : ℕ) (d t : Dialect) (consumed : Bytes) (w : ConverterSta
 
 -- what a state shows, by what reading its bytes results in
 shows_by :
-    {d t : Dialect} {consumed : Bytes} {s : Converter} (p : Progress) → read_bytes d (some (into t)) consumed ≡ p → s.records ≡ length (records_of p) →
+    {d t : Dialect} {consumed : Bytes} {s : Converter} (p : Progress) → read_bytes d (Some (into t)) consumed ≡ p → s.records ≡ length (records_of p) →
     s.columns ≡ columns_of (records_of p) → Named consumed s.names s.name_ends (records_of p) → StateShows d t consumed s
 shows_by p e records columns names = record { records = rw e records; columns = rw e columns; names = rw e names }
 
@@ -113,7 +113,7 @@ module _ (d t : Dialect) (consumed : Bytes) (s : Converter) (done : List Rec) (k
   begun bs out short room =
       record {
         begins = record { hold = h.hold; reached = record { consumed = consumed; reads = h.reads }; short = short; room = room };
-        offset = offset_is d (some (into t)) consumed stood h.reads;
+        offset = offset_is d (Some (into t)) consumed stood h.reads;
         heads = h.heads;
       }
 
@@ -137,12 +137,12 @@ module _ (d t : Dialect) (consumed : Bytes) (s : Converter) (done : List Rec) (k
       Says (call_answer r) out out' (taken (into t) (table_text (into t) (rows done)) q)
   says q r out out' g w l = record { answer = ap₂ (λ (x : Report) (n : ℕ). record { report = x; length = n }) g l; leaves = w }
 
-  module _ (m n : ℕ) (p : dialect_of m ≡ some d) (q : dialect_of n ≡ some t) where
+  module _ (m n : ℕ) (p : dialect_of m ≡ Some d) (q : dialect_of n ≡ Some t) where
     -- a piece
     module _ (bs out : Bytes) (r : CallResult) (ends' name_ends' bytes' names' out' : List ℕ) where
       pub piece_says :
           PieceRunSound d (into t) consumed bs (place_of s) done k out names' name_ends' bytes' ends' out' r →
-          Says (call_answer r) out out' (taken (into t) (table_text (into t) (rows done)) (read_from d (some (into t)) (going stood) bs))
+          Says (call_answer r) out out' (taken (into t) (table_text (into t) (rows done)) (read_from d (Some (into t)) (going stood) bs))
       unfolding new_text
       piece_says (took_all done' k' reads hold heads b g w l) = rw reads (says (going (read_at d r.place done' k')) r out out' g w l)
       piece_says (took_fault x z reads counts named g w l) = rw reads (says (stopped x z) r out out' g w l)
@@ -151,16 +151,16 @@ module _ (d t : Dialect) (consumed : Bytes) (s : Converter) (done : List Rec) (k
           PieceRunSound d (into t) consumed bs (place_of s) done k out names' name_ends' bytes' ends' out' r → length names' ≡ MAXRECORD →
           length name_ends' ≡ MAXCOLUMNS → length bytes' ≡ MAXRECORD →
           length ends' ≡ MAXCOLUMNS →
-          Left m n d t (consumed ++ bs) (stage_then false (read_from d (some (into t)) (going stood) bs)) (state_then s r 0 ends' name_ends' bytes' names')
+          Left m n d t (consumed ++ bs) (stage_then false (read_from d (Some (into t)) (going stood) bs)) (state_then s r 0 ends' name_ends' bytes' names')
       piece_left (took_all done' k' reads hold heads b g w l) long_names long_name_ends long_bytes long_ends =
           let back : r.place ≡ place_in (numbers_of r.place 0 r.report) = sym (place_back r.place 0 r.report) in
-          let on : read_bytes d (some (into t)) (consumed ++ bs) ≡ going (read_at d r.place done' k') =
+          let on : read_bytes d (Some (into t)) (consumed ++ bs) ≡ going (read_at d r.place done' k') =
           reads_on d (into t) consumed stood h.reads bs ∙ reads in
           let takes : Takes d t (consumed ++ bs) (state_then s r 0 ends' name_ends' bytes' names') done' k' = record {
             hold = subst (λ (x : Place). StateInvariant d (into t) x (current_in x names' bytes') (current_in x name_ends' ends') done' k') back hold;
             heads = subst (λ (x : Place). Heads (consumed ++ bs) x names' name_ends' done' k') back heads;
             bounds = subst (λ (x : Place). InBounds x (current_in x name_ends' ends')) back b;
-            reads = subst (λ (x : Place). read_bytes d (some (into t)) (consumed ++ bs) ≡ going (read_at d x done' k')) back on;
+            reads = subst (λ (x : Place). read_bytes d (Some (into t)) (consumed ++ bs) ≡ going (read_at d x done' k')) back on;
             long_names = long_names;
             long_name_ends = long_name_ends;
             long_bytes = long_bytes;
@@ -170,7 +170,7 @@ module _ (d t : Dialect) (consumed : Bytes) (s : Converter) (done : List Rec) (k
           (record {
             stage = stage_taking d t done' k' p q (ap (λ (x : Place). read_at d x done' k') back) (reports_taking (ap (λ (e : Report). e.number) g)) takes;
             shows = shows_by (going (read_at d r.place done' k')) on hold.records hold.columns heads.named;
-            offset = λ _. offset_is d (some (into t)) (consumed ++ bs) (read_at d r.place done' k') on;
+            offset = λ _. offset_is d (Some (into t)) (consumed ++ bs) (read_at d r.place done' k') on;
           })
       piece_left (took_fault x z reads counts named g w l) long_names long_name_ends long_bytes long_ends =
           rw reads
@@ -182,13 +182,13 @@ module _ (d t : Dialect) (consumed : Bytes) (s : Converter) (done : List Rec) (k
 
     -- the end
     module _ (out : Bytes) (r : CallResult) (ends' name_ends' bytes' names' out' : List ℕ) (f : Finished d (into t) (place_of s) done k out out' r) where
-      pub end_says : Says (call_answer r) out out' (taken (into t) (table_text (into t) (rows done)) (read_end d (some (into t)) (going stood)))
+      pub end_says : Says (call_answer r) out out' (taken (into t) (table_text (into t) (rows done)) (read_end d (Some (into t)) (going stood)))
       unfolding new_text
-      end_says = says (read_end d (some (into t)) (going stood)) r out out' f.reports f.text f.long
+      end_says = says (read_end d (Some (into t)) (going stood)) r out out' f.reports f.text f.long
 
       -- the flag is 1 where the end was accepted; after a fault it is not determined
-      end_stage : StageOf m n (consumed ++ []) (stage_then true (read_end d (some (into t)) (going stood))) (state_then s r 1 ends' name_ends' bytes' names')
-      end_stage = go (read_end d (some (into t)) (going stood)) f.reports
+      end_stage : StageOf m n (consumed ++ []) (stage_then true (read_end d (Some (into t)) (going stood))) (state_then s r 1 ends' name_ends' bytes' names')
+      end_stage = go (read_end d (Some (into t)) (going stood)) f.reports
         where
           go : (z : Progress) → r.report ≡ report_of z → StageOf m n (consumed ++ []) (stage_then true z) (state_then s r 1 ends' name_ends' bytes' names')
           go (going y) g = let one : 0 < 1 = omega arith in stage_ended (reports_ended (ap (λ (e : Report). e.number) g) one)
@@ -197,7 +197,7 @@ module _ (d t : Dialect) (consumed : Bytes) (s : Converter) (done : List Rec) (k
       -- the bytes consumed and the place do not change
       pub end_left :
           Named consumed names' name_ends' done →
-          Left m n d t (consumed ++ []) (stage_then true (read_end d (some (into t)) (going stood))) (state_then s r 1 ends' name_ends' bytes' names')
+          Left m n d t (consumed ++ []) (stage_then true (read_end d (Some (into t)) (going stood))) (state_then s r 1 ends' name_ends' bytes' names')
       unfolding read_from
       end_left named =
           record {
@@ -207,7 +207,7 @@ module _ (d t : Dialect) (consumed : Bytes) (s : Converter) (done : List Rec) (k
                 (ap (λ (x : Place). x.records) f.place ∙ h.hold.records) (ap (λ (x : Place). x.columns) f.place ∙ h.hold.columns)
                 (named_grows consumed [] names' name_ends' done named);
             offset =
-                λ _. ap (λ (x : Place). x.offset) f.place ∙ offset_is d (some (into t)) consumed stood h.reads ∙ ap length (sym (append-nil consumed));
+                λ _. ap (λ (x : Place). x.offset) f.place ∙ offset_is d (Some (into t)) consumed stood h.reads ∙ ap length (sym (append-nil consumed));
           }
 
 -- ---- a new converter
@@ -239,14 +239,14 @@ new_takes d t m n ends name_ends bytes names long_names long_name_ends long_byte
     } in
     let heads : Heads [] at_start names name_ends [] (buffered_none 0) =
     record { named = tt; kept = λ _. record { raw = refl; forward = z; within = z; cells = all_none } } in
-    let reads : read_bytes d (some (into t)) [] ≡ going (read_at d at_start [] (buffered_none 0)) = ap going (sym (first_reads d)) in
+    let reads : read_bytes d (Some (into t)) [] ≡ going (read_at d at_start [] (buffered_none 0)) = ap going (sym (first_reads d)) in
     record {
       hold =
           subst (λ (x : Place). StateInvariant d (into t) x (current_in x names bytes) (current_in x name_ends ends) [] (buffered_none 0))
           (sym first_place) (first_holds d (into t) (current_in at_start names bytes) (current_in at_start name_ends ends));
       heads = subst (λ (x : Place). Heads [] x names name_ends [] (buffered_none 0)) (sym first_place) heads;
       bounds = subst (λ (x : Place). InBounds x (current_in x name_ends ends)) (sym first_place) bounds;
-      reads = subst (λ (x : Place). read_bytes d (some (into t)) [] ≡ going (read_at d x [] (buffered_none 0))) (sym first_place) reads;
+      reads = subst (λ (x : Place). read_bytes d (Some (into t)) [] ≡ going (read_at d x [] (buffered_none 0))) (sym first_place) reads;
       long_names = long_names;
       long_name_ends = long_name_ends;
       long_bytes = long_bytes;
@@ -267,9 +267,9 @@ new_carries m n = go (dialect_of m) (dialect_of n) refl refl
     new_models w stage = record { source = refl; target = refl; stage = stage; shows = λ d t _ _. new_shows d t m n; offset = λ _. refl }
 
     go : (x y : Option Dialect) → dialect_of m ≡ x → dialect_of n ≡ y → Represents m n [] (new_converter m n)
-    go none y p q = carries_source p (new_models ended (stage_no_source p))
-    go (some d) none p q = carries_target q (new_models ended (stage_no_target q))
-    go (some d) (some t) p q =
+    go None y p q = carries_source p (new_models ended (stage_no_source p))
+    go (Some d) None p q = carries_target q (new_models ended (stage_no_target q))
+    go (Some d) (Some t) p q =
         let takes : Takes d t [] (new_converter m n) [] (buffered_none 0) =
         new_takes d t m n (replicate MAXCOLUMNS 0) (replicate MAXCOLUMNS 0) (replicate MAXRECORD 0) (replicate MAXRECORD 0) (zeros MAXRECORD)
         (zeros MAXCOLUMNS) (zeros MAXRECORD) (zeros MAXCOLUMNS) in
@@ -282,19 +282,19 @@ new_carries m n = go (dialect_of m) (dialect_of n) refl refl
 
 -- a state shows what the bytes consumed complete
 pub shown_after :
-    {m n : ℕ} {past : List Entry} {s : Converter} → Represents m n past s → (d t : Dialect) → dialect_of m ≡ some d → dialect_of n ≡ some t →
+    {m n : ℕ} {past : List Entry} {s : Converter} → Represents m n past s → (d t : Dialect) → dialect_of m ≡ Some d → dialect_of n ≡ Some t →
     StateShows d t (consumed_in past) s
 shown_after (carries_known d t w p q stood model) = model.shows
 shown_after (carries_source p model) = model.shows
 shown_after (carries_target q model) = model.shows
 
-not_faulted : {d : Dialect} {t : Target} {past : List Entry} {w : ConverterStage} → LiesAt d t past w → ledger.fault_in past ≡ none → Unfaulted w
+not_faulted : {d : Dialect} {t : Target} {past : List Entry} {w : ConverterStage} → LiesAt d t past w → ledger.fault_in past ≡ None → Unfaulted w
 not_faulted (stood_taking k e b x) none-met = tt
 not_faulted (stood_faulted f r z k e x) none-met = let z : ◌≡◌ {A = ℕ} 0 1 = cc in absurd (omega arith)
 not_faulted (stood_ended r k e b x) none-met = tt
 
 -- and counts them as long as no fault was met
-pub offset_after : {m n : ℕ} {past : List Entry} {s : Converter} → Represents m n past s → ledger.fault_in past ≡ none → s.offset ≡ length (consumed_in past)
+pub offset_after : {m n : ℕ} {past : List Entry} {s : Converter} → Represents m n past s → ledger.fault_in past ≡ None → s.offset ≡ length (consumed_in past)
 offset_after (carries_known d t w p q stood model) none-met = model.offset (not_faulted stood none-met)
 offset_after (carries_source p model) none-met = model.offset tt
 offset_after (carries_target q model) none-met = model.offset tt

@@ -1,6 +1,6 @@
 -- The stage of model's machine that a converter represents by its fields, and what the fields show of the bytes consumed.
 use Rattle.std.specs.Prelude.{ℕ, ◌≡◌, List, length}
-use Rattle.std.proofs.Math.Option.{none, some}
+use Rattle.std.specs.Prelude.{None, Some}
 use Rattle.model.specs.declared.Report.{Report}
 use Rattle.model.specs.declared.Dialect.{Dialect}
 use Rattle.model.specs.rules.Base.{Bytes}
@@ -22,9 +22,9 @@ use Rattle.piece_converter.specs.declared.Converter.{Converter}
 -- header's columns, and its names as they are encoded. After a fault or an accepted end it still does; a last record that only the end
 -- completes is not among them (§15.2)
 pub record StateShows (d t : Dialect) (consumed : Bytes) (s : Converter) : Type 0 where
-  pub records : s.records ≡ length (records_of (read_bytes d (some (into t)) consumed))
-  pub columns : s.columns ≡ columns_of (records_of (read_bytes d (some (into t)) consumed))
-  pub names : Named consumed s.names s.name_ends (records_of (read_bytes d (some (into t)) consumed))
+  pub records : s.records ≡ length (records_of (read_bytes d (Some (into t)) consumed))
+  pub columns : s.columns ≡ columns_of (records_of (read_bytes d (Some (into t)) consumed))
+  pub names : Named consumed s.names s.name_ends (records_of (read_bytes d (Some (into t)) consumed))
 
 -- no fault was met (§15.5)
 abbrev pub Unfaulted : ConverterStage → Type 0
@@ -40,7 +40,7 @@ pub record Takes (d t : Dialect) (consumed : Bytes) (s : Converter) (done : List
       StateInvariant d (into t) (place_of s) (current_in (place_of s) s.names s.bytes) (current_in (place_of s) s.name_ends s.ends) done k
   pub heads : Heads consumed (place_of s) s.names s.name_ends done k
   pub bounds : InBounds (place_of s) (current_in (place_of s) s.name_ends s.ends)
-  pub reads : read_bytes d (some (into t)) consumed ≡ going (read_at d (place_of s) done k)
+  pub reads : read_bytes d (Some (into t)) consumed ≡ going (read_at d (place_of s) done k)
   pub long_names : length s.names ≡ MAXRECORD
   pub long_name_ends : length s.name_ends ≡ MAXCOLUMNS
   pub long_bytes : length s.bytes ≡ MAXRECORD
@@ -49,13 +49,13 @@ pub record Takes (d t : Dialect) (consumed : Bytes) (s : Converter) (done : List
 -- the stage of a converter that was made with these two numbers; with a number that is no dialect it is that after an end (§15.4)
 pub data StageOf (m n : ℕ) (consumed : Bytes) : ConverterStage → Converter → Type 0 where
   stage_taking :
-      {s : Converter} {r : Read} (d t : Dialect) (done : List Rec) (k : Buffered) → dialect_of m ≡ some d → dialect_of n ≡ some t →
+      {s : Converter} {r : Read} (d t : Dialect) (done : List Rec) (k : Buffered) → dialect_of m ≡ Some d → dialect_of n ≡ Some t →
       r ≡ read_at d (place_of s) done k → StageEncoded (taking r) s.fault s.ended → Takes d t consumed s done k →
       StageOf m n consumed (taking r) s
   stage_faulted : {s : Converter} {e : Report} → StageEncoded (faulted e) s.fault s.ended → StageOf m n consumed (faulted e) s
   stage_ended : {s : Converter} → StageEncoded ended s.fault s.ended → StageOf m n consumed ended s
-  stage_no_source : {s : Converter} → dialect_of m ≡ none → StageOf m n consumed ended s
-  stage_no_target : {s : Converter} → dialect_of n ≡ none → StageOf m n consumed ended s
+  stage_no_source : {s : Converter} → dialect_of m ≡ None → StageOf m n consumed ended s
+  stage_no_target : {s : Converter} → dialect_of n ≡ None → StageOf m n consumed ended s
 
 -- A converter made with these two numbers is at this stage after these bytes, and shows what they complete. As long as no fault was met
 -- it counts them. Nothing else is determined after a fault or an accepted end: not `bytes` and `ends`, not `names` and `name_ends` beyond
@@ -65,5 +65,5 @@ pub record Models (consumed : Bytes) (m n : ℕ) (w : ConverterStage) (s : Conve
   pub source : s.source ≡ m
   pub target : s.target ≡ n
   pub stage : StageOf m n consumed w s
-  pub shows : (d t : Dialect) → dialect_of m ≡ some d → dialect_of n ≡ some t → StateShows d t consumed s
+  pub shows : (d t : Dialect) → dialect_of m ≡ Some d → dialect_of n ≡ Some t → StateShows d t consumed s
   pub offset : Unfaulted w → s.offset ≡ length consumed

@@ -10,8 +10,8 @@ use Rattle.cell_decoder.specs.Followed.{EdFollowed}
 use Rattle.model.specs.declared.Dialect.{Dialect}
 use Rattle.model.specs.declared.Target.{Target}
 use Rattle.model.specs.declared.Fault.{Fault}
-use Rattle.model.specs.declared.CheckResult.{CheckResult}
-use Rattle.model.specs.declared.CheckResult.TheVariants.{Sound, Faulty}
+use Rattle.model.specs.rules.Types.{CheckResult}
+use Rattle.std.specs.Prelude.{Ok, Err}
 use Rattle.piece_state.specs.declared.place.Place.{Place}
 use Rattle.piece_record.specs.declared.RecordResult.{RecordResult}
 use Rattle.piece_record.specs.declared.RecordResult.TheVariants.{Written, Refused, Invalid}
@@ -46,10 +46,10 @@ text_at t p vs = record_text t (p.records is 0) vs ++ ending t.dialect
 -- its text is written at o, if it has no fault and there is room
 pub data FinishSound (v : CheckResult) (text : Bytes) (o : ℕ) (out out' : List ℕ) : RecordResult → Type 0 where
   is_written :
-      {end : ℕ} → v ≡ Sound → o + length text ≤ length out → out' ≡ written out o text → end ≡ o + length text →
+      {end : ℕ} → v ≡ Ok tt → o + length text ≤ length out → out' ≡ written out o text → end ≡ o + length text →
       FinishSound v text o out out' (Written end)
-  is_refused : {e : Fault} → v ≡ Faulty e → out' ≡ out → FinishSound v text o out out' (Refused e)
-  has_no_room : v ≡ Sound → length out < o + length text → out' ≡ out → FinishSound v text o out out' Invalid
+  is_refused : {e : Fault} → v ≡ Err e → out' ≡ out → FinishSound v text o out out' (Refused e)
+  has_no_room : v ≡ Ok tt → length out < o + length text → out' ≡ out → FinishSound v text o out out' Invalid
 
 -- the cells in the buffered bytes with these ends
 abbrev pub buffered_values : Dialect → Bytes → (ends : List ℕ) → List Value

@@ -16,7 +16,7 @@ ghost use Rattle.piece_state.specs.Sound.{InOrder};
 ghost use Rattle.piece_record.specs.Completion.{fault_at, text_at, starts_by, end_of, HoldsNoEd, FinishSound, CompleteSound};
 
 use cell_decoder::source::Source;
-use model::{CheckResult, Dialect, Fault};
+use model::{Dialect, Fault};
 use piece_state::cells;
 use piece_state::place::Place;
 
@@ -53,8 +53,8 @@ fn finish(
     );
     let v = r.verdict;
     match v {
-        CheckResult::Faulty(e) => RecordResult::Refused(e),
-        CheckResult::Sound => {
+        Err(e) => RecordResult::Refused(e),
+        Ok(()) => {
             if out.len() - o < r.length {
                 return RecordResult::Invalid;
             }

@@ -3,7 +3,7 @@ use Prim.Native.Nat.{ℕ, ◌+◌, ◌≤◌}
 use native.Mathlib.Omega.{arith}
 use mathlib.Core.Path.{◌≡◌, refl, sym, ap, ◌∙◌}
 use mathlib.Core.Bool.{true}
-use mathlib.Core.Option.{some}
+use Rattle.std.specs.Prelude.{Some}
 use mathlib.Core.List.{List, [], ◌∷◌, ◌++◌, map}
 use lib.ListN.{length}
 use Rattle.model.specs.rules.Base.{is_empty}
@@ -28,7 +28,7 @@ use Rattle.piece_step.proofs.Faults.{fault_start, report_start, report_byte, fau
 module _ (d : Dialect) (t : Target) (p : Place) (done : List Rec) (k : Buffered) where
   -- what the end of the file results in
   abbrev pub read_last : Progress
-  read_last = read_end d (some t) (going (read_at d p done k))
+  read_last = read_end d (Some t) (going (read_at d p done k))
 
   -- the cells of the current record, with the open one
   abbrev pub last_cells : List RawCell
@@ -41,7 +41,7 @@ module _ (d : Dialect) (t : Target) (p : Place) (done : List Rec) (k : Buffered)
   abbrev pub done_last : List Rec
   done_last = done ++ (record { start = k.start; size = p.size; cells = last_values } ∷ [])
 
-  ends_as : (x : Ending) → file_end d p.state ≡ x → read_last ≡ end_at d (some t) (read_at d p done k) x
+  ends_as : (x : Ending) → file_end d p.state ≡ x → read_last ≡ end_at d (Some t) (read_at d p done k) x
   unfolding read_end
   ends_as x e = rw e
 
@@ -85,17 +85,17 @@ module _ (d : Dialect) (t : Target) (p : Place) (done : List Rec) (k : Buffered)
       unfolding validate_cell
       last_whole = all_snoc h.whole (runs_sound 0 h.runs (whole_at (file_ends d p.state) e))
 
-      completes_last : read_last ≡ complete d (some t) (read_at d p done k) last_values Begin p.offset
+      completes_last : read_last ≡ complete d (Some t) (read_at d p done k) last_values Begin p.offset
       completes_last =
-          ends_as Final e ∙ ap (λ vs. complete d (some t) (read_at d p done k) vs Begin p.offset) (values_closing d (some t) done true (scan_at p k))
+          ends_as Final e ∙ ap (λ vs. complete d (Some t) (read_at d p done k) vs Begin p.offset) (values_closing d (Some t) done true (scan_at p k))
 
       module _ (ws : List Value) (same : SameCells ws last_values) where
-        fault_last : fault_at d t p ws ≡ record_fault d (some t) done last_values
+        fault_last : fault_at d t p ws ≡ record_fault d (Some t) done last_values
         fault_last = fault_of d t p done h.records h.columns h.written ws last_values same
 
         pub last_faulty : (x : Fault) → fault_at d t p ws ≡ Faulty x → read_last ≡ stopped x (read_at d p done k)
         unfolding complete
-        last_faulty x q = let f : record_fault d (some t) done last_values ≡ Faulty x = sym fault_last ∙ q in completes_last ∙ rw f
+        last_faulty x q = let f : record_fault d (Some t) done last_values ≡ Faulty x = sym fault_last ∙ q in completes_last ∙ rw f
 
         pub last_reports :
             (x : Fault) → fault_at d t p ws ≡ Faulty x → fault_report x (read_at d p done k) ≡ report (number_of x) (p.records + 1) (column_of x) p.start
@@ -105,7 +105,7 @@ module _ (d : Dialect) (t : Target) (p : Place) (done : List Rec) (k : Buffered)
 
         pub last_sound : fault_at d t p ws ≡ Sound → read_last ≡ going (between_records done_last Begin p.offset)
         unfolding complete
-        last_sound q = let f : record_fault d (some t) done last_values ≡ Sound = sym fault_last ∙ q in completes_last ∙ rw f
+        last_sound q = let f : record_fault d (Some t) done last_values ≡ Sound = sym fault_last ∙ q in completes_last ∙ rw f
 
         pub last_text : text_at t p ws ≡ record_text t (is_empty done) last_values ++ ending t.dialect
         last_text = text_of d t p done h.records ws last_values same

@@ -3,7 +3,7 @@
 use Prim.Native.Nat.{ℕ, ◌+◌, ◌≤◌, ◌<◌}
 use native.Mathlib.Omega.{arith}
 use mathlib.Core.Path.{◌≡◌, refl, sym, ap, ap₂, subst, ◌∙◌}
-use mathlib.Core.Option.{some}
+use Rattle.std.specs.Prelude.{Some}
 use mathlib.Core.List.{List, [], ◌∷◌, ◌++◌, append_assoc}
 use lib.ListN.{length, take, drop, length-append}
 use lib.Seq.{take-append_seam, drop-append-add, drop-drop}
@@ -67,7 +67,7 @@ module _ {d : Dialect} {t : Target} {piece : Bytes} {place : Place} {done : List
   -- one record more was read and written
   unfoldable pub walk_more :
       {mid : List Rec} {q : Place} {at end : ℕ} {bytes' ends' out' : List ℕ} → Grows mid w.done' → (x : Rec) (k'' : Buffered) →
-      read_from d (some t) (going (read_at d p w.done' w.k')) (drop i piece) ≡ read_from d (some t)
+      read_from d (Some t) (going (read_at d p w.done' w.k')) (drop i piece) ≡ read_from d (Some t)
       (going (read_at d q (w.done' ++ (x ∷ [])) k'')) (drop at piece) →
       StateInvariant d t q bytes' ends' (w.done' ++ (x ∷ [])) k'' → out' ≡ written out o (record_text t (is_empty w.done') x.cells ++ ending t.dialect) →
       end ≡ o + length (record_text t (is_empty w.done') x.cells ++ ending t.dialect) → Since mid d t piece place done k out₀ at q bytes' ends' out' end

@@ -1,6 +1,6 @@
 -- Step after step over a piece: the loop's invariant, and what the steps result in.
 use Rattle.std.specs.Prelude.{ℕ, ◌≤◌, ◌≡◌, List, length, drop}
-use Rattle.std.proofs.Math.Option.{some}
+use Rattle.std.specs.Prelude.{Some}
 use Rattle.model.specs.rules.Base.{Bytes, over}
 use Rattle.model.specs.rules.Report.{accepted, MAXPIECE, LEASTOUTPUT}
 use Rattle.model.specs.rules.Records.{Rec, Read, going, stopped, read_from, fault_report}
@@ -21,7 +21,7 @@ pub record StepsSoFar (d : Dialect) (t : Target) (piece : Bytes) (place : Place)
   pub k' : Buffered
   pub hold : StateInvariant d t p bytes ends done' k'
   pub grown : Grows done done'
-  pub reads : read_from d (some t) (going (read_at d place done k)) piece ≡ read_from d (some t) (going (read_at d p done' k')) (drop i piece)
+  pub reads : read_from d (Some t) (going (read_at d place done k)) piece ≡ read_from d (Some t) (going (read_at d p done' k')) (drop i piece)
   pub text : out ≡ over (new_text t done done') out₀
   pub long : o ≡ length (new_text t done done')
 
@@ -36,11 +36,11 @@ pub record Entered (d : Dialect) (t : Target) (piece : Bytes) (place : Place) (d
 pub data StepsSound (d : Dialect) (t : Target) (piece : Bytes) (place : Place) (done : List Rec) (k : Buffered) (mid : List Rec)
     (out₀ bytes' ends' out' : List ℕ) (r : CallResult) : Type 0 where
   proceeds_all :
-      (done' : List Rec) (k' : Buffered) → Grows mid done' → read_from d (some t) (going (read_at d place done k)) piece ≡ going (read_at d r.place done' k') →
+      (done' : List Rec) (k' : Buffered) → Grows mid done' → read_from d (Some t) (going (read_at d place done k)) piece ≡ going (read_at d r.place done' k') →
       StateInvariant d t r.place bytes' ends' done' k' → InBounds r.place ends' → r.report ≡ accepted → out' ≡ over (new_text t done done') out₀ →
       r.length ≡ length (new_text t done done') → StepsSound d t piece place done k mid out₀ bytes' ends' out' r
   proceeds_fault :
-      (x : Fault) (q : Read) → Grows mid q.done → read_from d (some t) (going (read_at d place done k)) piece ≡ stopped x q →
+      (x : Fault) (q : Read) → Grows mid q.done → read_from d (Some t) (going (read_at d place done k)) piece ≡ stopped x q →
       CountsRecords r.place q.done →
       r.report ≡ fault_report x q → out' ≡ over (new_text t done q.done) out₀ → r.length ≡ length (new_text t done q.done) →
       StepsSound d t piece place done k mid out₀ bytes' ends' out' r

@@ -2,7 +2,7 @@
 use Prim.Native.Nat.{ℕ}
 use mathlib.Core.Path.{◌≡◌, refl, ap, ap₂, ◌∙◌}
 use mathlib.Core.Bool.{Bool, true, false}
-use mathlib.Core.Option.{Option, none, some}
+use Rattle.std.specs.Prelude.{Option, None, Some}
 use lib.ListN.{length}
 use borrow.Author.Tests.{lt-ltb}
 use Rattle.model.specs.declared.Report.{Report}
@@ -20,17 +20,17 @@ use Rattle.piece_state.specs.Checks.{means_refused, means_taken, ChecksMean}
 -- ---- dialects
 
 module _ (m n : ℕ) (fault : Report) (over piece room : ℕ) where
-  pub unknown_source : dialect_of m ≡ none → check_now m n fault over piece room ≡ Refused (refusal 11)
+  pub unknown_source : dialect_of m ≡ None → check_now m n fault over piece room ≡ Refused (refusal 11)
   unknown_source e = ap (λ (o : Option Dialect). check_named o (dialect_of n) fault over piece room) e
 
-  no_target : (o : Option Dialect) → check_named o none fault over piece room ≡ Refused (refusal 11)
-  no_target none = refl
-  no_target (some d) = refl
+  no_target : (o : Option Dialect) → check_named o None fault over piece room ≡ Refused (refusal 11)
+  no_target None = refl
+  no_target (Some d) = refl
 
-  pub unknown_target : dialect_of n ≡ none → check_now m n fault over piece room ≡ Refused (refusal 11)
+  pub unknown_target : dialect_of n ≡ None → check_now m n fault over piece room ≡ Refused (refusal 11)
   unknown_target e = ap (λ (o : Option Dialect). check_named (dialect_of m) o fault over piece room) e ∙ no_target (dialect_of m)
 
-  pub both_known : (d t : Dialect) → dialect_of m ≡ some d → dialect_of n ≡ some t → check_now m n fault over piece room ≡ check_between d t fault over piece room
+  pub both_known : (d t : Dialect) → dialect_of m ≡ Some d → dialect_of n ≡ Some t → check_now m n fault over piece room ≡ check_between d t fault over piece room
   both_known d t e f = ap₂ (λ (o p : Option Dialect). check_named o p fault over piece room) e f
 
 -- ---- stages

@@ -1,6 +1,6 @@
 -- The checks before a call, by the saved numbers, and the stage of model's machine that these numbers encode.
 use Rattle.std.specs.Prelude.{ℕ, ◌<◌, ◌≡◌, true, false, ◌||◌, length, ltb}
-use Rattle.std.proofs.Math.Option.{Option, none, some}
+use Rattle.std.specs.Prelude.{Option, None, Some}
 use Rattle.model.specs.declared.Report.{Report}
 use Rattle.model.specs.declared.Dialect.{Dialect}
 use Rattle.model.specs.rules.Base.{choose◌then◌else◌}
@@ -24,9 +24,9 @@ check_between d t fault over piece room =
 
 -- either number may be of no dialect, which is 11 (§15.4)
 abbrev pub check_named : Option Dialect → Option Dialect → (fault : Report) → (ended piece room : ℕ) → CallCheck
-check_named none t fault over piece room = Refused (refusal 11)
-check_named (some d) none fault over piece room = Refused (refusal 11)
-check_named (some d) (some t) fault over piece room = check_between d t fault over piece room
+check_named None t fault over piece room = Refused (refusal 11)
+check_named (Some d) None fault over piece room = Refused (refusal 11)
+check_named (Some d) (Some t) fault over piece room = check_between d t fault over piece room
 
 -- the four checks (§15.4 §15.5 §15.6 §15.7)
 abbrev pub check_now : (source target : ℕ) → (fault : Report) → (ended piece room : ℕ) → CallCheck
@@ -49,5 +49,5 @@ pub data CallCheckSound (d t : Dialect) (w : ConverterStage) (c : Call) : CallCh
 -- the check results are the machine's (§15.4 §15.5 §15.6 §15.7)
 abbrev pub ChecksMean : Type 0
 ChecksMean =
-    (m n : ℕ) (d t : Dialect) (w : ConverterStage) (fault : Report) (over : ℕ) (c : Call) → dialect_of m ≡ some d → dialect_of n ≡ some t →
+    (m n : ℕ) (d t : Dialect) (w : ConverterStage) (fault : Report) (over : ℕ) (c : Call) → dialect_of m ≡ Some d → dialect_of n ≡ Some t →
     StageEncoded w fault over → CallCheckSound d t w c (check_now m n fault over (length (bytes_of c)) (room_of c))

@@ -81,7 +81,7 @@ pub fn kinds_of(
     while k < n {
         let start = starts[k];
         let end = ends[k];
-        kinds[k] = codes::kind_number(cell::kind_of(d, &bytes[start..end]));
+        kinds[k] = u8::from(cell::kind_of(d, &bytes[start..end]));
         k += 1;
     }
 }

@@ -8,7 +8,6 @@ ghost use Rattle.model.specs.laws.Scans.{in_record};
 ghost use Rattle.piece_state.specs.Sound.{buffered_in_record, in_order};
 
 use crate::place::Place;
-use codes::NamedDialect;
 use model::{Dialect, FileState, Report};
 
 // The result of the checks before anything is read: a refusal, which may repeat an earlier fault; or the call proceeds, between these two
@@ -56,10 +55,10 @@ pub fn check_call(
 ) -> CallCheck
     ensures { result ≡ check_now source target fault ended piece room }
 {
-    let NamedDialect::Known(d) = codes::dialect_of(source) else {
+    let Ok(d) = Dialect::try_from(source) else {
         return CallCheck::Refused(codes::call_report(codes::WRONG_CALL));
     };
-    let NamedDialect::Known(t) = codes::dialect_of(target) else {
+    let Ok(t) = Dialect::try_from(target) else {
         return CallCheck::Refused(codes::call_report(codes::WRONG_CALL));
     };
     check_between(d, t, fault, ended, piece, room)

@@ -3,13 +3,13 @@ use Prim.Native.Nat.{ℕ, ◌+◌, ◌-◌, ◌≤◌}
 use native.Mathlib.Omega.{arith}
 use mathlib.Core.Path.{◌≡◌, refl, sym, ap, subst, ◌∙◌}
 use mathlib.Core.Bool.{Bool, false}
-use mathlib.Core.Option.{some}
+use Rattle.std.specs.Prelude.{Some}
 use mathlib.Core.List.{List, [], ◌∷◌, ◌++◌, map}
 use lib.ListN.{length, take, drop}
 use borrow.Author.Tests.{ne_eqb}
 use Rattle.model.specs.declared.Dialect.{Dialect}
 use Rattle.model.specs.declared.FileState.{FileState}
-use Rattle.model.specs.declared.CheckResult.TheVariants.{Sound}
+use Rattle.std.specs.Prelude.{Ok}
 use Rattle.model.specs.rules.Base.{choose◌then◌else◌, ◌is◌, Bytes}
 use Rattle.model.specs.rules.Dialect.{into}
 use Rattle.model.specs.rules.Decode.{kind_of, content_of}
@@ -65,8 +65,8 @@ later : (p : Place) → (p.records ≡ 0 → ⊥) → (p.records is 0) ≡ false
 later p h = ne_eqb p.records 0 h
 
 sound_at :
-    (d t : Dialect) (p : Place) (vs : List Value) → (p.records ≡ 0 → ⊥) → data_fault p.columns vs ≡ Sound →
-    target_fault (into t) false p.written vs ≡ Sound → fault_at d (into t) p vs ≡ Sound
+    (d t : Dialect) (p : Place) (vs : List Value) → (p.records ≡ 0 → ⊥) → data_fault p.columns vs ≡ Ok tt →
+    target_fault (into t) false p.written vs ≡ Ok tt → fault_at d (into t) p vs ≡ Ok tt
 unfolding fault_at choose◌then◌else◌ ◌or_else◌
 sound_at d t p vs l a b = rw (later p l, a, b)
 
@@ -133,7 +133,7 @@ module _ (t : Dialect) {d : Dialect} {piece : Bytes} {n i : ℕ} {p : Place} {ou
         FastStepSound d (into t) piece i p bytes ends' done k o out out' r
     writes_turns (not_found w) = nothing
     writes_turns (at_next {end = end} few a b room w y) =
-        let sound : fault_at d (into t) p Cells-of ≡ Sound = sound_at d t p Cells-of between.later a b in
+        let sound : fault_at d (into t) p Cells-of ≡ Ok tt = sound_at d t p Cells-of between.later a b in
         let spelt : text_at (into t) p Cells-of ≡ record_text (into t) false Cells-of ++ ending t = text_at_lem t p Cells-of between.later in
         let text =
         text_here u hold ready.at under ready.inside at_end.found.s at_end.found.cs g next at_end.found.left came Cells-of (same few) sound in
@@ -144,7 +144,7 @@ module _ (t : Dialect) {d : Dialect} {piece : Bytes} {n i : ℕ} {p : Place} {ou
         let this : Rec =
         record { start = (in_file u at_end.found.s).start; size = at_end.found.s.size; cells = map (value_of d) (all_cells u at_end.found.cs) } in
         a_record this (buffered_none (n + next))
-        (subst (λ (x : Place). read_from d (some (into t)) (going (read_at d p done k)) (drop i piece) ≡ read_from d (some (into t))
+        (subst (λ (x : Place). read_from d (Some (into t)) (going (read_at d p done k)) (drop i piece) ≡ read_from d (Some (into t))
         (going (read_at d x (done_then u hold ready.at under ready.inside at_end.found.s at_end.found.cs g next
         at_end.found.left came) (buffered_none (n + next)))) (drop next piece)) place
         (sound_reads u hold ready.at under ready.inside at_end.found.s at_end.found.cs g next at_end.found.left came Cells-of

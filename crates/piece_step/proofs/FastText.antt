@@ -8,7 +8,7 @@ use lib.ListN.{length}
 use borrow.Author.Tests.{ne_eqb}
 use Rattle.model.specs.declared.Dialect.{Dialect}
 use Rattle.model.specs.declared.FileState.{FileState}
-use Rattle.model.specs.declared.CheckResult.TheVariants.{Sound}
+use Rattle.std.specs.Prelude.{Ok}
 use Rattle.model.specs.rules.Base.{choose◌then◌else◌}
 use Rattle.model.specs.rules.Dialect.{into}
 use Rattle.model.specs.rules.Text.{Value, record_text, ending}
@@ -27,8 +27,8 @@ other : {A : Type 0} → ◌≡◌ {A = ℕ} 0 1 → A
 other z = absurd (omega arith)
 
 pub record UpTo (t : Dialect) (columns before : ℕ) (vs : List Value) (o : ℕ) (out out' : List ℕ) (end : ℕ) : Type 0 where
-  pub source : data_fault columns vs ≡ Sound
-  pub target : target_fault (into t) false before vs ≡ Sound
+  pub source : data_fault columns vs ≡ Ok tt
+  pub target : target_fault (into t) false before vs ≡ Ok tt
   pub room : o + length (record_text (into t) false vs ++ ending t) ≤ length out
   pub text : out' ≡ written out o (record_text (into t) false vs ++ ending t)
   pub place : end ≡ o + length (record_text (into t) false vs ++ ending t)

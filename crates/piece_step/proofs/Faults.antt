@@ -3,7 +3,7 @@ use Prim.Native.Nat.{ℕ, suc, ◌+◌}
 use native.Mathlib.Omega.{arith}
 use mathlib.Core.Path.{◌≡◌, refl, sym, ap, ◌∙◌}
 use mathlib.Core.Bool.{Bool, true, false, not}
-use mathlib.Core.Option.{some}
+use Rattle.std.specs.Prelude.{Some}
 use mathlib.Core.List.{List, [], ◌∷◌, ◌++◌}
 use lib.ListN.{length}
 use lib.Dec.{ltb, eqb}
@@ -107,7 +107,7 @@ report_byte e r n q l = let z : suc n ≡ n + 1 = omega arith in rw (q, l, z)
 by_records :
     (d : Dialect) (t : Target) (done : List Rec) (vs : List Value) →
     ((choose is_empty done then header_fault d vs else data_fault (columns_of done) vs) or_else target_fault t (is_empty done)
-    (length (table_text t (rows done))) vs) ≡ record_fault d (some t) done vs
+    (length (table_text t (rows done))) vs) ≡ record_fault d (Some t) done vs
 unfolding record_fault rows choose◌then◌else◌
 by_records d t [] vs = refl
 by_records d t (x ∷ xs) vs = refl
@@ -121,13 +121,13 @@ module _ (d : Dialect) (t : Target) (p : Place) (done : List Rec) (records : p.r
       go (x ∷ xs) = ne_eqb (suc (length xs)) 0 (λ e. omega arith)
 
   module _ (columns : p.columns ≡ columns_of done) (written : p.written ≡ length (table_text t (rows done))) where
-    by_numbers : (vs : List Value) → fault_at d t p vs ≡ record_fault d (some t) done vs
+    by_numbers : (vs : List Value) → fault_at d t p vs ≡ record_fault d (Some t) done vs
     unfolding fault_at
     by_numbers vs = rw (is_first_lem, columns, written) (by_records d t done vs)
 
     -- the same for cells at other offsets
-    pub fault_of : (ws vs : List Value) → SameCells ws vs → fault_at d t p ws ≡ record_fault d (some t) done vs
-    fault_of ws vs s = by_numbers ws ∙ place_free.fault d (some t) done ws vs s
+    pub fault_of : (ws vs : List Value) → SameCells ws vs → fault_at d t p ws ≡ record_fault d (Some t) done vs
+    fault_of ws vs s = by_numbers ws ∙ place_free.fault d (Some t) done ws vs s
 
   pub text_of : (ws vs : List Value) → SameCells ws vs → text_at t p ws ≡ record_text t (is_empty done) vs ++ ending t.dialect
   text_of ws vs s = rw is_first_lem (ap (λ l. l ++ ending t.dialect) (place_free.text t (is_empty done) ws vs s))

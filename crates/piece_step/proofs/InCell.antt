@@ -11,7 +11,7 @@ use Rattle.model.specs.declared.Dialect.{Dialect}
 use Rattle.model.specs.declared.Cell.{Cell}
 use Rattle.model.specs.declared.FileState.{FileState}
 use Rattle.model.specs.declared.FileState.TheVariants.{Inside}
-use Rattle.model.specs.declared.Step.TheVariants.{To}
+use Rattle.std.specs.Prelude.{Ok}
 use Rattle.model.specs.declared.ByteRole.TheVariants.{OfCell}
 use Rattle.model.specs.rules.Base.{Bytes, choose◌then◌else◌}
 use Rattle.model.specs.rules.Dialect.{quote_of}
@@ -52,7 +52,7 @@ module _ (d : Dialect) (limit : ℕ) (c : Cell) (q : ℕ) (stops : run_stop d c 
         cells = s.cells;
       }
 
-  steps : (f : FileState) (b : ℕ) → f ≡ Inside c → ordinary (quote_of d) q b ≡ true → file_step d f b ≡ To (Inside c) OfCell
+  steps : (f : FileState) (b : ℕ) → f ≡ Inside c → ordinary (quote_of d) q b ≡ true → file_step d f b ≡ Ok (Inside c, OfCell)
   unfolding file_step in_cell
   steps f b e h = rw (e, run_step d c q b stops h) refl
 

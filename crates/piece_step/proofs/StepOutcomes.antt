@@ -4,7 +4,7 @@ use Prim.Native.Nat.{ℕ, suc, ◌+◌, ◌-◌, ◌≤◌}
 use native.Mathlib.Omega.{arith}
 use mathlib.Core.Path.{◌≡◌, refl, sym, ap, subst, ◌∙◌}
 use mathlib.Core.Bool.{true, false}
-use mathlib.Core.Option.{some}
+use Rattle.std.specs.Prelude.{Some}
 use mathlib.Core.List.{List, [], ◌∷◌, ◌++◌, map, append-nil}
 use lib.ListN.{length, drop, length-append, length-map}
 use borrow.Author.Tests.{eq-eqb, ne_eqb, eqb-true, eqb-false}
@@ -169,11 +169,11 @@ module _ (u : Step) where
 
   -- what reading results in
   abbrev pub read_on : Progress
-  read_on = read_from d (some t) (going (read_at d p done k)) (drop i piece)
+  read_on = read_from d (Some t) (going (read_at d p done k)) (drop i piece)
 
   module _ {bytes ends : List ℕ} (h : StateInvariant d t p bytes ends done k) (at : p.offset ≡ n + i) (under : n ≤ MAXFILE) (inside : i ≤ length piece) where
-    reads_on : read_on ≡ resume d (some t) done (joined_to k (n + i) (moved_to n scanned))
-    reads_on = rw at (part_reads d (some t) done n k p.state p.size i (drop i piece) under h.holds)
+    reads_on : read_on ≡ resume d (Some t) done (joined_to k (n + i) (moved_to n scanned))
+    reads_on = rw at (part_reads d (Some t) done n k p.state p.size i (drop i piece) under h.holds)
 
     scans_on : scan d MAXFILE (scan_at p k) (drop i piece) ≡ joined_to k (n + i) (moved_to n scanned)
     scans_on = rw at (part_scans d n k p.state p.size i (drop i piece) under h.holds)
@@ -207,7 +207,7 @@ module _ (u : Step) where
       pend_sized = pending_size (subst (λ x. SizedTo (joined_to k (n + i) (moved_to n x))) e sized_on)
 
       pub pend_reads : (fill : ℕ) → read_on ≡ going (read_at d (place_pending p n i fill s) done (buffered_of (in_file s)))
-      pend_reads fill = reads_on ∙ ap (λ x. resume d (some t) done (joined_to k (n + i) (moved_to n x))) e
+      pend_reads fill = reads_on ∙ ap (λ x. resume d (Some t) done (joined_to k (n + i) (moved_to n x))) e
 
       -- the buffered cells are then encoded as in the file
       pub pend_stands : (file : Bytes) → Follows file piece i p k → ScanIn file (in_file s)
@@ -239,7 +239,7 @@ module _ (u : Step) where
 
     module _ (x : Fault) (s : Scan) (e : scanned ≡ fails x s) where
       pub fail_reads : read_on ≡ stopped x (read_of d done (in_file s))
-      fail_reads = reads_on ∙ ap (λ y. resume d (some t) done (joined_to k (n + i) (moved_to n y))) e
+      fail_reads = reads_on ∙ ap (λ y. resume d (Some t) done (joined_to k (n + i) (moved_to n y))) e
 
       pub fail_reports : fault_report x (read_of d done (in_file s)) ≡ report (number_of x) (p.records + 1) (column_of x) (n + s.offset)
       fail_reports =
@@ -268,17 +268,17 @@ module _ (u : Step) where
       abbrev pub done_then : List Rec
       done_then = done ++ (record { start = (in_file s).start; size = s.size; cells = values_now } ∷ [])
 
-      completes_on : read_on ≡ resume d (some t) done (completes (in_file s) (all_cells cs) f (n + next) left)
-      completes_on = reads_on ∙ ap (λ x. resume d (some t) done (joined_to k (n + i) (moved_to n x))) e
+      completes_on : read_on ≡ resume d (Some t) done (completes (in_file s) (all_cells cs) f (n + next) left)
+      completes_on = reads_on ∙ ap (λ x. resume d (Some t) done (joined_to k (n + i) (moved_to n x))) e
 
       module _ (ws : List Value) (same : SameCells ws values_now) where
-        fault_here : fault_at d t p ws ≡ record_fault d (some t) done values_now
+        fault_here : fault_at d t p ws ≡ record_fault d (Some t) done values_now
         fault_here = fault_of d t p done h.records h.columns h.written ws values_now same
 
         -- it has a fault
         module _ (x : Fault) (q : fault_at d t p ws ≡ Faulty x) where
           pub faulty_reads : read_on ≡ stopped x (read_of d done (in_file s))
-          faulty_reads = completes_on ∙ (completing d (some t) done (in_file s) (all_cells cs) f (n + next) left).faulty x (sym fault_here ∙ q)
+          faulty_reads = completes_on ∙ (completing d (Some t) done (in_file s) (all_cells cs) f (n + next) left).faulty x (sym fault_here ∙ q)
 
           pub faulty_reports : fault_report x (read_of d done (in_file s)) ≡ report (number_of x) (p.records + 1) (column_of x) (start_from p n i s.start)
           faulty_reports =
@@ -290,10 +290,10 @@ module _ (u : Step) where
           abbrev pub place_then : Place
           place_then = place_after p (length ws) (length (text_at t p ws)) f (n + next)
 
-          pub sound_reads : read_on ≡ read_from d (some t) (going (read_at d place_then done_then (buffered_none (n + next)))) (drop next piece)
+          pub sound_reads : read_on ≡ read_from d (Some t) (going (read_at d place_then done_then (buffered_none (n + next)))) (drop next piece)
           sound_reads =
-              completes_on ∙ (completing d (some t) done (in_file s) (all_cells cs) f (n + next) left).sound (sym fault_here ∙ q)
-              ∙ ap (read_from d (some t) (going (read_at d place_then done_then (buffered_none (n + next))))) complete_in.rest
+              completes_on ∙ (completing d (Some t) done (in_file s) (all_cells cs) f (n + next) left).sound (sym fault_here ∙ q)
+              ∙ ap (read_from d (Some t) (going (read_at d place_then done_then (buffered_none (n + next))))) complete_in.rest
 
           columns_then : columns_with p (length ws) ≡ columns_of done_then
           unfolding choose◌then◌else◌

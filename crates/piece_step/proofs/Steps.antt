@@ -4,7 +4,7 @@ use Prim.Native.Nat.{ℕ, suc, ◌+◌, ◌-◌, ◌≤◌, ◌<◌}
 use native.Mathlib.Omega.{arith}
 use mathlib.Core.Path.{◌≡◌, refl, sym, ap, ap₂, subst, ◌∙◌}
 use mathlib.Core.Bool.{false}
-use mathlib.Core.Option.{some}
+use Rattle.std.specs.Prelude.{Some}
 use mathlib.Core.List.{List, [], ◌∷◌, map}
 use lib.ListN.{length, take, drop, length-append, length-map, length-drop}
 use lib.Seq.{take_all}
@@ -292,7 +292,7 @@ module _ (d : Dialect) (piece : Bytes) (n i : ℕ) (p : Place) (bytes ends out :
             (p.cells + cells) (end - o) f (n + next) =
             ap₂ (λ (x y : ℕ). place_after p x y f (n + next)) m long in
             steps_next this (buffered_none (n + next))
-            (subst (λ (y : Place). read_from d (some t) (going (read_at d p done k)) (drop i piece) ≡ read_from d (some t)
+            (subst (λ (y : Place). read_from d (Some t) (going (read_at d p done k)) (drop i piece) ≡ read_from d (Some t)
             (going (read_at d y (done_then u hold ready.at under ready.inside a.s a.cs f next a.left a.came)
             (buffered_none (n + next)))) (drop next piece)) place
             (sound_reads u hold ready.at under ready.inside a.s a.cs f next a.left a.came ws same q))
@@ -525,7 +525,7 @@ module _ (d : Dialect) (piece : Bytes) (n i : ℕ) (p : Place) (bytes ends out :
         by fill e shown =
             let same : place_pending p n i fill s ≡ r = place_is fill ∙ sym e in
             steps_pending k'
-            (subst (λ (x : Place). read_from d (some t) (going (read_at d p done k)) (drop i piece) ≡ going (read_at d x done k')) same
+            (subst (λ (x : Place). read_from d (Some t) (going (read_at d p done k)) (drop i piece) ≡ going (read_at d x done k')) same
             (pend_reads v hold ready.at under ready.inside s a.came fill))
             (subst (λ (x : Place). StateInvariant d t x bytes' ends' done k') same
             (pend_holds v hold ready.at under ready.inside s a.came fill bytes' ends' shown))

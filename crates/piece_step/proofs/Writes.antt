@@ -2,7 +2,7 @@
 use Prim.Native.Nat.{◌+◌, ◌≤◌}
 use native.Mathlib.Omega.{arith}
 use mathlib.Core.Path.{◌≡◌, sym, ap, ◌∙◌}
-use mathlib.Core.Option.{some}
+use Rattle.std.specs.Prelude.{Some}
 use mathlib.Core.List.{List, [], ◌∷◌, ◌++◌, append_assoc, append-nil}
 use lib.ListN.{length, drop, length-append}
 use Rattle.model.specs.rules.Base.{Bytes, is_empty}
@@ -22,33 +22,33 @@ grown_length {a} g = omega (arith, ap length g.sum, length-append a g.added)
 
 module _ (d : Dialect) (t : Target) where
   -- the records completed so far are among those of the whole piece
-  module _ (xs : Bytes) (r : Read) (e : read_bytes d (some t) xs ≡ going r) where
+  module _ (xs : Bytes) (r : Read) (e : read_bytes d (Some t) xs ≡ going r) where
     -- what reading the bytes results in with a piece more
-    pub reads_on : (piece : Bytes) → read_bytes d (some t) (xs ++ piece) ≡ read_from d (some t) (going r) piece
+    pub reads_on : (piece : Bytes) → read_bytes d (Some t) (xs ++ piece) ≡ read_from d (Some t) (going r) piece
     unfolding read_bytes
-    reads_on piece = read_append d (some t) (going nothing_read) xs piece ∙ ap (λ p. read_from d (some t) p piece) e
+    reads_on piece = read_append d (Some t) (going nothing_read) xs piece ∙ ap (λ p. read_from d (Some t) p piece) e
 
     -- a piece has room for its records so far
     pub piece_room :
-        (piece rest : Bytes) (q : Read) → length piece ≤ MAXPIECE → read_from d (some t) (going r) piece ≡ read_from d (some t) (going q) rest →
+        (piece rest : Bytes) (q : Read) → length piece ≤ MAXPIECE → read_from d (Some t) (going r) piece ≡ read_from d (Some t) (going q) rest →
         length (table_text t (rows q.done)) ≤ length (table_text t (rows r.done)) + LEASTOUTPUT
     piece_room piece rest q l s =
-        let all : read_bytes d (some t) (xs ++ piece) ≡ read_from d (some t) (going q) rest = reads_on piece ∙ s in
-        let most : length (table_text t (rows (records_of (read_bytes d (some t) (xs ++ piece))))) ≤ length (table_text t (rows r.done)) + 49152 =
+        let all : read_bytes d (Some t) (xs ++ piece) ≡ read_from d (Some t) (going q) rest = reads_on piece ∙ s in
+        let most : length (table_text t (rows (records_of (read_bytes d (Some t) (xs ++ piece))))) ≤ length (table_text t (rows r.done)) + 49152 =
         piece_writes d t xs piece r e l in
-        let most' : length (table_text t (rows (records_of (read_from d (some t) (going q) rest)))) ≤ length (table_text t (rows r.done)) + 49152 =
+        let most' : length (table_text t (rows (records_of (read_from d (Some t) (going q) rest)))) ≤ length (table_text t (rows r.done)) + 49152 =
         rw all at most in
-        let some_of : length (table_text t (rows q.done)) ≤ length (table_text t (rows (records_of (read_from d (some t) (going q) rest)))) =
-        grown_length (table_grows t (read_grows d (some t) (going q) rest)) in
+        let some_of : length (table_text t (rows q.done)) ≤ length (table_text t (rows (records_of (read_from d (Some t) (going q) rest)))) =
+        grown_length (table_grows t (read_grows d (Some t) (going q) rest)) in
         omega arith
 
     -- the end has room for the last record
     pub end_room :
-        (q : Read) → read_end d (some t) (going r) ≡ going q → length (table_text t (rows q.done)) ≤ length (table_text t (rows r.done)) + LEASTOUTPUT
+        (q : Read) → read_end d (Some t) (going r) ≡ going q → length (table_text t (rows q.done)) ≤ length (table_text t (rows r.done)) + LEASTOUTPUT
     unfolding read_file
     end_room q s =
-        let all : read_file d (some t) xs ≡ going q = ap (read_end d (some t)) e ∙ s in
-        let most : length (table_text t (rows (records_of (read_file d (some t) xs)))) ≤ length (table_text t (rows r.done)) + 49152 = end_writes d t xs r e in
+        let all : read_file d (Some t) xs ≡ going q = ap (read_end d (Some t)) e ∙ s in
+        let most : length (table_text t (rows (records_of (read_file d (Some t) xs)))) ≤ length (table_text t (rows r.done)) + 49152 = end_writes d t xs r e in
         rw all at most
 
 -- ---- the new text

@@ -1,6 +1,6 @@
 -- What a call begins with, over a piece or at the end, and what the end results in.
 use Rattle.std.specs.Prelude.{ℕ, ◌+◌, ◌≤◌, ◌≡◌, List, [], ◌∷◌, length}
-use Rattle.std.proofs.Math.Option.{some}
+use Rattle.std.specs.Prelude.{Some}
 use Rattle.model.specs.rules.Base.{Bytes, over}
 use Rattle.model.specs.rules.Report.{report, number_of, column_of, MAXRECORD, MAXCOLUMNS, MAXPIECE, LEASTOUTPUT}
 use Rattle.model.specs.rules.Records.{Rec, Read, going, read_bytes, read_end, report_of, records_of}
@@ -16,7 +16,7 @@ use Rattle.piece_step.specs.Steps.{InBounds, current_in, EncodedInFile}
 -- reading some bytes results in this
 pub record Reached (d : Dialect) (t : Target) (r : Read) : Type 0 where
   pub consumed : Bytes
-  pub reads : read_bytes d (some t) consumed ≡ going r
+  pub reads : read_bytes d (Some t) consumed ≡ going r
 
 -- a call begins where earlier calls ended, with a piece and an output of allowed sizes
 pub record CallStart (d : Dialect) (t : Target) (piece : Bytes) (p : Place) (bytes ends out : List ℕ) (done : List Rec) (k : Buffered) : Type 0 where
@@ -66,6 +66,6 @@ failed_as p e at = record { place = p; report = report (number_of e) (p.records 
 -- the report on the file's end, and the text of a last record; the place does not change
 pub record Finished (d : Dialect) (t : Target) (p : Place) (done : List Rec) (k : Buffered) (out out' : List ℕ) (r : CallResult) : Type 0 where
   pub place : r.place ≡ p
-  pub reports : r.report ≡ report_of (read_end d (some t) (going (read_at d p done k)))
-  pub text : out' ≡ over (new_text t done (records_of (read_end d (some t) (going (read_at d p done k))))) out
-  pub long : r.length ≡ length (new_text t done (records_of (read_end d (some t) (going (read_at d p done k)))))
+  pub reports : r.report ≡ report_of (read_end d (Some t) (going (read_at d p done k)))
+  pub text : out' ≡ over (new_text t done (records_of (read_end d (Some t) (going (read_at d p done k))))) out
+  pub long : r.length ≡ length (new_text t done (records_of (read_end d (Some t) (going (read_at d p done k)))))

@@ -1,11 +1,11 @@
 -- The fast path over a data record that lies whole in the piece: when it applies, and that its result is that of a step.
 use Rattle.std.specs.Prelude.{ℕ, ◌+◌, ◌-◌, ◌≤◌, ◌<◌, ◌≡◌, false, List, [], ◌∷◌, ◌++◌, length, drop}
-use Rattle.std.proofs.Math.Option.{some}
+use Rattle.std.specs.Prelude.{Some}
 use Rattle.model.specs.declared.Dialect.{Dialect}
 use Rattle.model.specs.declared.Target.{Target}
 use Rattle.model.specs.declared.FileState.{FileState}
 use Rattle.model.specs.declared.FileState.TheVariants.{Begin, Ended}
-use Rattle.model.specs.declared.CheckResult.TheVariants.{Sound}
+use Rattle.std.specs.Prelude.{Ok}
 use Rattle.model.specs.rules.Base.{Bytes, is_empty}
 use Rattle.model.specs.rules.Dialect.{into}
 use Rattle.model.specs.rules.Text.{Value, record_text, ending}
@@ -26,7 +26,7 @@ use Rattle.piece_step.specs.declared.fast.FastStep.TheVariants.{Next, Fallback}
 -- the text lies from o up to `end` in the output, if the record has no fault and there is room
 pub data FastTextSound (t : Dialect) (columns before : ℕ) (vs : List Value) (o : ℕ) (out out' : List ℕ) : FastText → Type 0 where
   up_to :
-      {end : ℕ} → data_fault columns vs ≡ Sound → target_fault (into t) false before vs ≡ Sound →
+      {end : ℕ} → data_fault columns vs ≡ Ok tt → target_fault (into t) false before vs ≡ Ok tt →
       o + length (record_text (into t) false vs ++ ending t) ≤ length out →
       out' ≡ written out o (record_text (into t) false vs ++ ending t) → end ≡ o + length (record_text (into t) false vs ++ ending t) →
       FastTextSound t columns before vs o out out' (put.To end)
@@ -58,7 +58,7 @@ pub record Between (p : Place) : Type 0 where
 pub data FastStepWrites (t : Dialect) (p : Place) (n next : ℕ) (f : FileState) (cells : ℕ) (vs : List Value) (o : ℕ)
     (out out' : List ℕ) : FastStep → Type 0 where
   at_next :
-      {end : ℕ} → cells ≤ MAXCOLUMNS → data_fault p.columns vs ≡ Sound → target_fault (into t) false p.written vs ≡ Sound →
+      {end : ℕ} → cells ≤ MAXCOLUMNS → data_fault p.columns vs ≡ Ok tt → target_fault (into t) false p.written vs ≡ Ok tt →
       o + length (record_text (into t) false vs ++ ending t) ≤ length out →
       out' ≡ written out o (record_text (into t) false vs ++ ending t) → end ≡ o + length (record_text (into t) false vs ++ ending t) →
       FastStepWrites t p n next f cells vs o out out' (Next (place_after p (length vs) (end - o) f (n + next)) next end)
@@ -76,7 +76,7 @@ pub data FastStepSound (d : Dialect) (t : Target) (piece : Bytes) (i : ℕ) (p :
     (out out' : List ℕ) : FastStep → Type 0 where
   a_record :
       {q : Place} {at end : ℕ} (x : Rec) (k' : Buffered) →
-      read_from d (some t) (going (read_at d p done k)) (drop i piece) ≡ read_from d (some t) (going (read_at d q (done ++ (x ∷ [])) k')) (drop at piece) →
+      read_from d (Some t) (going (read_at d p done k)) (drop i piece) ≡ read_from d (Some t) (going (read_at d q (done ++ (x ∷ [])) k')) (drop at piece) →
       StateInvariant d t q bytes ends (done ++ (x ∷ [])) k' → out' ≡ written out o (record_text t (is_empty done) x.cells ++ ending t.dialect) →
       end ≡ o + length (record_text t (is_empty done) x.cells ++ ending t.dialect) →
       FastStepSound d t piece i p bytes ends done k o out out' (Next q at end)

@@ -1,6 +1,6 @@
 -- One step of the run over a piece: what it requires, that it stays in bounds from any state, and what reading results in by it.
 use Rattle.std.specs.Prelude.{ℕ, ◌+◌, ◌-◌, ◌≤◌, ◌<◌, ◌≡◌, false, List, [], ◌∷◌, ◌++◌, length, take, drop}
-use Rattle.std.proofs.Math.Option.{some}
+use Rattle.std.specs.Prelude.{Some}
 use Rattle.model.specs.rules.Base.{choose◌then◌else◌, ◌is◌, Bytes, is_empty}
 use Rattle.model.specs.rules.Text.{Value, record_text, ending}
 use Rattle.model.specs.rules.Report.{report, number_of, column_of, MAXFILE, MAXRECORD, MAXCOLUMNS}
@@ -140,22 +140,22 @@ pub data StepSound (d : Dialect) (t : Target) (piece : Bytes) (i : ℕ) (p : Pla
     (out bytes' ends' out' : List ℕ) : PieceStep → Type 0 where
   steps_next :
       {q : Place} {at end : ℕ} (x : Rec) (k' : Buffered) →
-      read_from d (some t) (going (read_at d p done k)) (drop i piece) ≡ read_from d (some t) (going (read_at d q (done ++ (x ∷ [])) k')) (drop at piece) →
+      read_from d (Some t) (going (read_at d p done k)) (drop i piece) ≡ read_from d (Some t) (going (read_at d q (done ++ (x ∷ [])) k')) (drop at piece) →
       StateInvariant d t q bytes' ends' (done ++ (x ∷ [])) k' →
       ((file : Bytes) → Follows file piece i p k → EncodedInFile file bytes' 0 ends' x.cells) →
       out' ≡ written out o (record_text t (is_empty done) x.cells ++ ending t.dialect) →
       end ≡ o + length (record_text t (is_empty done) x.cells ++ ending t.dialect) → StepSound d t piece i p done k o out bytes' ends' out' (Next q at end)
   steps_pending :
-      {q : Place} (k' : Buffered) → read_from d (some t) (going (read_at d p done k)) (drop i piece) ≡ going (read_at d q done k') →
+      {q : Place} (k' : Buffered) → read_from d (Some t) (going (read_at d p done k)) (drop i piece) ≡ going (read_at d q done k') →
       StateInvariant d t q bytes' ends' done k' →
       ((file : Bytes) → Follows file piece i p k → ScanIn file (scan_at q k')) → out' ≡ out →
       StepSound d t piece i p done k o out bytes' ends' out' (NeedInput q)
   steps_stopped :
-      {e : Report} (x : Fault) (r : Read) → read_from d (some t) (going (read_at d p done k)) (drop i piece) ≡ stopped x r → r.done ≡ done →
+      {e : Report} (x : Fault) (r : Read) → read_from d (Some t) (going (read_at d p done k)) (drop i piece) ≡ stopped x r → r.done ≡ done →
       e ≡ fault_report x r → out' ≡ out →
       StepSound d t piece i p done k o out bytes' ends' out' (Failed e)
   -- there was no room in the output
   steps_nowhere :
       (x : Rec) (q : Read) (at : ℕ) →
-      read_from d (some t) (going (read_at d p done k)) (drop i piece) ≡ read_from d (some t) (going q) (drop at piece) → q.done ≡ done ++ (x ∷ []) →
+      read_from d (Some t) (going (read_at d p done k)) (drop i piece) ≡ read_from d (Some t) (going q) (drop at piece) → q.done ≡ done ++ (x ∷ []) →
       length out < o + length (record_text t (is_empty done) x.cells ++ ending t.dialect) → StepSound d t piece i p done k o out bytes' ends' out' BadState

@@ -6,14 +6,12 @@ pub use Rattle.model.specs.declared.Cell.TheVariants.{Fresh}
 pub use Rattle.model.specs.declared.FileState.{FileState}
 pub use Rattle.model.specs.declared.FileState.TheVariants.{Top, Begin, Ended, Bom1, Bom2, PlainBom1, PlainBom2, Comment, Blanks, ExpectCell, Inside, After, Cr}
 pub use Rattle.model.specs.declared.ByteRole.TheVariants.{Outside, Passed, OfCell, Between, Tail, Ends}
-pub use Rattle.model.specs.declared.Step.{Step}
-pub use Rattle.model.specs.declared.Step.TheVariants.{To, Reject}
+pub use Rattle.model.specs.rules.Types.{Step}
+pub use Rattle.std.specs.Prelude.{Ok, Err}
 pub use Rattle.model.specs.declared.Ending.{Ending}
 pub use Rattle.model.specs.declared.Ending.TheVariants.{Clean, Final, Cut}
 pub use Rattle.model.specs.declared.ByteFault.{ByteFault}
 pub use Rattle.model.specs.declared.Fault.{Fault}
 pub use Rattle.model.specs.declared.Fault.TheVariants.{NoRecord, CutShort, CellCount, RepeatedName, HeaderKind, TooManyColumns, NoCells, LacksKind}
 pub use Rattle.model.specs.declared.Fault.TheVariants.{LoneSurrogate, Clash, TextTooLong, OutputTooLong}
-pub use Rattle.model.specs.declared.CheckResult.{CheckResult}
-pub use Rattle.model.specs.declared.CheckResult.TheVariants.{Sound, Faulty}
-pub use Rattle.model.specs.declared.CellCheck.TheVariants.{WholeCell}
+pub use Rattle.model.specs.rules.Types.{CheckResult}

@@ -16,7 +16,7 @@ ghost use Rattle.piece_step.specs.FastSteps.{FastTextSound, FastStepReady, Betwe
 
 use cell_decoder::source::Source;
 use codes::{MAX_COLUMNS, MAX_FILE};
-use model::{CheckResult, Dialect, FileState};
+use model::{Dialect, FileState};
 use piece_state::place::Place;
 use record_fast::FastScan;
 use record_writer::line;
@@ -57,13 +57,13 @@ fn write_record(
     requires before_bound { (before ≤ MAXFILE) × (o ≤ length out.old) }
     ensures { FastTextSound t columns before (cells_in (File d) piece.now starts.now stops.now kinds.now) o out.old out.new result }
 {
-    if let CheckResult::Faulty(_) = record_check::data(columns, starts.len()) {
+    if let Err(_) = record_check::data(columns, starts.len()) {
         return FastText::Fallback;
     }
     let src = Source::File(d);
     let r = record_target::check_target(src, t, piece, starts, stops, kinds, false, clean, before);
     let v = r.verdict;
-    if let CheckResult::Faulty(_) = v {
+    if let Err(_) = v {
         return FastText::Fallback;
     }
     if out.len() - o < r.length {

@@ -13,7 +13,7 @@ use std::io::Read;
 fn written_length(written: usize, out: &[u8]) -> usize
     ensures { result ≤ length out.now }
 {
-    codes::min_of(written, out.len())
+    written.min(out.len())
 }
 
 // Writes a refusal in words to standard error.

@@ -10,8 +10,8 @@ use borrow.Author.Tests.{eq-eqb, ne_eqb, lt-ltb, le-ltb}
 use Rattle.model.specs.declared.Dialect.{Dialect}
 use Rattle.model.specs.declared.Fault.{Fault}
 use Rattle.model.specs.declared.Fault.TheVariants.{CellCount, RepeatedName, HeaderKind, TooManyColumns}
-use Rattle.model.specs.declared.CheckResult.{CheckResult}
-use Rattle.model.specs.declared.CheckResult.TheVariants.{Sound, Faulty}
+use Rattle.model.specs.rules.Types.{CheckResult}
+use Rattle.std.specs.Prelude.{Ok, Err}
 use Rattle.model.specs.rules.Base.{Bytes}
 use Rattle.model.specs.rules.Text.{Value, is_text}
 use Rattle.model.specs.rules.Records.{◌or_else◌, when, repeat_fault, header_kind_from, header_fault, data_fault}
@@ -23,15 +23,15 @@ use Rattle.record_check.specs.Kinds.{not_text_from}
 -- ---- data records
 
 module _ (columns cells : ℕ) (vs : List Value) (e : length vs ≡ cells) where
-  pub data_too_many : 64 < cells → Faulty TooManyColumns ≡ data_fault columns vs
+  pub data_too_many : 64 < cells → Err TooManyColumns ≡ data_fault columns vs
   unfolding data_fault when ◌or_else◌
   data_too_many h = rw (e, lt-ltb 64 cells h)
 
-  pub data_uneven : cells ≤ 64 → (cells ≡ columns → ⊥) → Faulty CellCount ≡ data_fault columns vs
+  pub data_uneven : cells ≤ 64 → (cells ≡ columns → ⊥) → Err CellCount ≡ data_fault columns vs
   unfolding data_fault when ◌or_else◌
   data_uneven h n = rw (e, le-ltb 64 cells h, ne_eqb cells columns n)
 
-  pub data_sound : cells ≤ 64 → cells ≡ columns → Sound ≡ data_fault columns vs
+  pub data_sound : cells ≤ 64 → cells ≡ columns → Ok tt ≡ data_fault columns vs
   unfolding data_fault when ◌or_else◌
   data_sound h n = rw (e, le-ltb 64 cells h, eq-eqb cells columns n)
 
@@ -42,12 +42,12 @@ module _ (kinds : List ℕ) where
   not_text_at n = not_text_from (n + 1) (drop n kinds)
 
   module _ (n : ℕ) where
-    pub not_text_end : length kinds ≤ n → not_text_at n ≡ Sound
+    pub not_text_end : length kinds ≤ n → not_text_at n ≡ Ok tt
     unfolding not_text_from
     not_text_end h = rw (drop_of_length-le kinds h)
 
     module _ (h : n < length kinds) where
-      pub not_text_here : is_text (kind_from (get_or kinds n 0)) ≡ false → not_text_at n ≡ Faulty (HeaderKind (n + 1))
+      pub not_text_here : is_text (kind_from (get_or kinds n 0)) ≡ false → not_text_at n ≡ Err (HeaderKind (n + 1))
       unfolding not_text_from when ◌or_else◌
       not_text_here e = rw (drop_next kinds n (n + 1) h refl, e)
 
@@ -70,15 +70,15 @@ not_text_cells n src s (i ∷ starts) (j ∷ ends) (x ∷ kinds) e k =
 -- ---- headers
 
 module _ (d : Dialect) (vs : List Value) where
-  pub header_too_many : 64 < length vs → Faulty TooManyColumns ≡ header_fault d vs
+  pub header_too_many : 64 < length vs → Err TooManyColumns ≡ header_fault d vs
   unfolding header_fault when ◌or_else◌
   header_too_many h = rw (lt-ltb 64 (length vs) h)
 
   module _ (few : length vs ≤ 64) where
-    pub header_not_text : (e : Fault) → header_kind_from 1 vs ≡ Faulty e → Faulty e ≡ header_fault d vs
+    pub header_not_text : (e : Fault) → header_kind_from 1 vs ≡ Err e → Err e ≡ header_fault d vs
     unfolding header_fault when ◌or_else◌
     header_not_text e h = rw (le-ltb 64 (length vs) few, h)
 
-    pub header_names : header_kind_from 1 vs ≡ Sound → repeat_fault d RepeatedName vs ≡ header_fault d vs
+    pub header_names : header_kind_from 1 vs ≡ Ok tt → repeat_fault d RepeatedName vs ≡ header_fault d vs
     unfolding header_fault when ◌or_else◌
     header_names h = rw (le-ltb 64 (length vs) few, h)

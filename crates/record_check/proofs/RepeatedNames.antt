@@ -7,8 +7,8 @@ use native.Mathlib.Numerals.{add-one}
 use lib.ListN.{length}
 use Rattle.model.specs.declared.Dialect.{Dialect}
 use Rattle.model.specs.declared.Fault.{Fault}
-use Rattle.model.specs.declared.CheckResult.{CheckResult}
-use Rattle.model.specs.declared.CheckResult.TheVariants.{Sound, Faulty}
+use Rattle.model.specs.rules.Types.{CheckResult}
+use Rattle.std.specs.Prelude.{Ok, Err}
 use Rattle.model.specs.rules.Base.{choose◌then◌else◌, Bytes}
 use Rattle.model.specs.rules.Records.{among, repeat_from, repeat_fault}
 use Rattle.cell_decoder.specs.declared.source.Source.{Source}
@@ -30,12 +30,12 @@ module _ (src : Source) (rule : Dialect) (fault : ℕ → Fault) (s : Bytes) (st
   keys_next n = rw add-one
 
   module _ (p : length starts ≡ length ends) (q : length kinds ≡ length starts) (n : ℕ) where
-    pub repeat_end : length starts ≤ n → repeat_at n ≡ Sound
+    pub repeat_end : length starts ≤ n → repeat_at n ≡ Ok tt
     unfolding repeat_from
     repeat_end h = rw (cells_end src s starts ends kinds p (sym q) n h)
 
     module _ (h : n < length starts) where
-      pub repeat_here : among (key_of src rule s starts ends n) (keys_before src rule s starts ends n) ≡ true → repeat_at n ≡ Faulty (fault (n + 1))
+      pub repeat_here : among (key_of src rule s starts ends n) (keys_before src rule s starts ends n) ≡ true → repeat_at n ≡ Err (fault (n + 1))
       unfolding repeat_from choose◌then◌else◌
       repeat_here e = rw (cells_next src s starts ends kinds p (sym q) n h, e)
 

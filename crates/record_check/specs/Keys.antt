@@ -3,8 +3,8 @@ use Rattle.std.specs.Prelude.{ℕ, zero, suc, ◌<◌, ◌≤◌, ◌≡◌, Lis
 use Rattle.model.specs.declared.Dialect.{Dialect}
 use Rattle.model.specs.declared.Dialect.TheVariants.{Csvj, Tdif, CsvPlus}
 use Rattle.model.specs.declared.Fault.{Fault}
-use Rattle.model.specs.declared.CheckResult.{CheckResult}
-use Rattle.model.specs.declared.CheckResult.TheVariants.{Sound, Faulty}
+use Rattle.model.specs.rules.Types.{CheckResult}
+use Rattle.std.specs.Prelude.{Ok, Err}
 use Rattle.model.specs.rules.Base.{Bytes}
 use Rattle.model.specs.rules.Records.{lower, name_key}
 use Rattle.model.specs.rules.Report.{MAXRECORD}
@@ -48,5 +48,5 @@ keys_before src rule s starts ends (suc n) = key_at src rule s (get_or starts n 
 
 -- the check result for a repeated name, with the caller's fault
 abbrev pub repeated_as : (ℕ → Fault) → Repeat → CheckResult
-repeated_as fault NoRepeat = Sound
-repeated_as fault (AtColumn n) = Faulty (fault n)
+repeated_as fault NoRepeat = Ok tt
+repeated_as fault (AtColumn n) = Err (fault n)

@@ -1,7 +1,7 @@
 -- The faults that a source finds in a complete record: those of a header or those of a data record (§7.8).
 use Rattle.std.specs.Prelude.{ℕ, Bool, List}
 use Rattle.model.specs.declared.Dialect.{Dialect}
-use Rattle.model.specs.declared.CheckResult.{CheckResult}
+use Rattle.model.specs.rules.Types.{CheckResult}
 use Rattle.model.specs.rules.Base.{choose◌then◌else◌}
 use Rattle.model.specs.rules.Text.{Value}
 use Rattle.model.specs.rules.Records.{header_fault, data_fault}

@@ -17,25 +17,25 @@ use crate::names::Repeat;
 use cell_decoder::source;
 use cell_decoder::source::Source;
 use codes::MAX_COLUMNS;
-use model::{CheckResult, Dialect, Fault};
+use model::{Dialect, Fault};
 
 pub mod names;
 
 // ---- headers
 
 // The first cell that is not text (§6.7).
-fn first_not_text(kinds: &[u8]) -> CheckResult
+fn first_not_text(kinds: &[u8]) -> Result<(), Fault>
     ensures { result ≡ not_text_from 1 kinds.now }
 {
     let mut n = 0;
     while n < kinds.len() {
         if !source::is_text(source::kind_of_number(kinds[n])) {
             let column = n + 1;
-            return CheckResult::Faulty(Fault::HeaderKind { column });
+            return Err(Fault::HeaderKind { column });
         }
         n += 1;
     }
-    CheckResult::Sound
+    Ok(())
 }
 
 // The checks of a header, with names compared by the rule of a dialect.
@@ -46,19 +46,19 @@ pub fn header(
     starts: &[usize],
     ends: &[usize],
     kinds: &[u8],
-) -> CheckResult
+) -> Result<(), Fault>
     requires { Cells src s.now starts.now ends.now kinds.now }
     ensures { result ≡ header_fault rule (cells_in src s.now starts.now ends.now kinds.now) }
 {
     if MAX_COLUMNS < starts.len() {
-        return CheckResult::Faulty(Fault::TooManyColumns);
+        return Err(Fault::TooManyColumns);
     }
-    if let CheckResult::Faulty(e) = first_not_text(kinds) {
-        return CheckResult::Faulty(e);
+    if let Err(e) = first_not_text(kinds) {
+        return Err(e);
     }
     match crate::names::first_repeat(src, rule, s, starts, ends) {
-        Repeat::NoRepeat => CheckResult::Sound,
-        Repeat::AtColumn(column) => CheckResult::Faulty(Fault::RepeatedName { column }),
+        Repeat::NoRepeat => Ok(()),
+        Repeat::AtColumn(column) => Err(Fault::RepeatedName { column }),
     }
 }
 
@@ -66,16 +66,16 @@ pub fn header(
 
 // The checks of a data record with this number of cells, under a header of `columns` columns. Only the number counts, so a caller need not
 // have the cells in lists.
-pub fn data(columns: usize, cells: usize) -> CheckResult
+pub fn data(columns: usize, cells: usize) -> Result<(), Fault>
     ensures { (vs : List Value) → length vs ≡ cells → result ≡ data_fault columns vs }
 {
     if MAX_COLUMNS < cells {
-        return CheckResult::Faulty(Fault::TooManyColumns);
+        return Err(Fault::TooManyColumns);
     }
     if cells != columns {
-        return CheckResult::Faulty(Fault::CellCount);
+        return Err(Fault::CellCount);
     }
-    CheckResult::Sound
+    Ok(())
 }
 
 // ---- records of a source
@@ -90,7 +90,7 @@ pub fn check(
     kinds: &[u8],
     header: bool,
     columns: usize,
-) -> CheckResult
+) -> Result<(), Fault>
     requires { Cells src s.now starts.now ends.now kinds.now }
     ensures { result ≡ source_fault d header columns
         (cells_in src s.now starts.now ends.now kinds.now) }

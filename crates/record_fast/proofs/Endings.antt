@@ -11,7 +11,7 @@ use Rattle.model.specs.declared.Cell.TheVariants.{Fresh}
 use Rattle.model.specs.declared.FileState.{FileState}
 use Rattle.model.specs.declared.FileState.TheVariants.{Begin, Ended, ExpectCell, Inside, Cr}
 use Rattle.model.specs.declared.ByteRole.TheVariants.{Between, Tail, Ends}
-use Rattle.model.specs.declared.Step.TheVariants.{To}
+use Rattle.std.specs.Prelude.{Ok}
 use Rattle.model.specs.rules.Base.{choose◌then◌else◌, ◌is◌, LF, CR}
 use Rattle.model.specs.rules.Dialect.{delimiter_byte, delimiter_of}
 use Rattle.model.specs.rules.File.{after_cell}
@@ -22,7 +22,7 @@ next_cell Csvj = ExpectCell
 next_cell Tdif = Inside Fresh
 next_cell (CsvPlus s) = Inside Fresh
 
-pub after_delimiter : (d : Dialect) → after_cell d true (delimiter_of d) ≡ To (next_cell d) (Between true)
+pub after_delimiter : (d : Dialect) → after_cell d true (delimiter_of d) ≡ Ok (next_cell d, Between true)
 unfolding after_cell choose◌then◌else◌
 after_delimiter Csvj = refl
 after_delimiter Tdif = refl
@@ -43,20 +43,20 @@ no_cr Semicolon = refl
 no_cr Tab = refl
 no_cr Bar = refl
 
-pub after_lf : (d : Dialect) → after_cell d true LF ≡ To Begin (Ends true)
+pub after_lf : (d : Dialect) → after_cell d true LF ≡ Ok (Begin, Ends true)
 unfolding after_cell choose◌then◌else◌
 after_lf Csvj = refl
 after_lf Tdif = refl
 after_lf (CsvPlus s) = rw (no_lf s.delimiter)
 
-pub after_cr_csvj : after_cell Csvj true CR ≡ To Cr (Tail true)
+pub after_cr_csvj : after_cell Csvj true CR ≡ Ok (Cr, Tail true)
 unfolding after_cell choose◌then◌else◌
 after_cr_csvj = refl
 
-pub after_cr_tdif : after_cell Tdif true CR ≡ To Ended (Ends true)
+pub after_cr_tdif : after_cell Tdif true CR ≡ Ok (Ended, Ends true)
 unfolding after_cell choose◌then◌else◌
 after_cr_tdif = refl
 
-pub after_cr_plus : (s : Settings) → after_cell (CsvPlus s) true CR ≡ To Cr (Tail true)
+pub after_cr_plus : (s : Settings) → after_cell (CsvPlus s) true CR ≡ Ok (Cr, Tail true)
 unfolding after_cell choose◌then◌else◌
 after_cr_plus s = rw (no_cr s.delimiter)

@@ -17,8 +17,8 @@ use Rattle.model.specs.declared.CellStep.TheVariants.{Refuse}
 use Rattle.model.specs.declared.FileState.{FileState}
 use Rattle.model.specs.declared.FileState.TheVariants.{Top, Begin, Ended, Bom1, Bom2, PlainBom1, PlainBom2, Comment, Blanks, ExpectCell, Inside, After, Cr}
 use Rattle.model.specs.declared.ByteRole.TheVariants.{Passed, Between, Tail, Ends}
-use Rattle.model.specs.declared.Step.{Step}
-use Rattle.model.specs.declared.Step.TheVariants.{To}
+use Rattle.model.specs.rules.Types.{Step}
+use Rattle.std.specs.Prelude.{Ok}
 use Rattle.model.specs.rules.Base.{choose◌then◌else◌, ◌is◌, Bytes, QUOTE, LF, CR}
 use Rattle.model.specs.rules.Dialect.{quote_of, delimiter_of}
 use Rattle.model.specs.rules.Cell.{first_byte, cell_step}
@@ -277,18 +277,18 @@ module _ (d : Dialect) (part : Bytes) (limit from room base : ℕ) (starts₀ en
   unfolding file_step choose◌then◌else◌
   after_lf i u q =
       let k : Call = From Ended in
-      let s : To Begin Passed ≡ file_step d Ended (get_or part from 0) = rw q in
+      let s : Ok (Begin, Passed) ≡ file_step d Ended (get_or part from 0) = rw q in
       let z : from - from ≡ 0 = omega arith in
-      let a : Asked k Ended from (hand from from 0) starts₀ ends₀ kinds₀ (Is (To Begin Passed)) =
+      let a : Asked k Ended from (hand from from 0) starts₀ ends₀ kinds₀ (Is (Ok (Begin, Passed))) =
       record {
         scanning = at_from Ended;
         inside = i;
         under = u;
         fits = rw z;
         lies = s;
-        comes = byte_results d limit part Ended from (from - from) i u (To Begin Passed) s;
+        comes = byte_results d limit part Ended from (from - from) i u (Ok (Begin, Passed)) s;
       } in
-      let v = by_byte k a (To Begin Passed) refl in
+      let v = by_byte k a (Ok (Begin, Passed)) refl in
       let x : 0 ≡ from + 1 - (from + 1) = omega arith in
       step_on k v Begin Passed refl false refl starts₀ ends₀ kinds₀ (
         not_stored false room (base + 0) from starts₀ refl,
@@ -362,7 +362,7 @@ module _ (d : Dialect) (part : Bytes) (limit from room base : ℕ) (starts₀ en
               let k : Call = call_of d part first limit from room base starts₀ ends₀ kinds₀ in
               let g = r.rest first b in
               let t = after k r.bounds p on g.opening g.scanning ends_at in
-              let s : after_cell d true (get_or part e 0) ≡ To (next_cell d) (Between true) = ap (λ (c : ℕ). after_cell d true c) q ∙ after_delimiter d in
+              let s : after_cell d true (get_or part e 0) ≡ Ok (next_cell d, Between true) = ap (λ (c : ℕ). after_cell d true c) q ∙ after_delimiter d in
               let sized : e + 1 - start ≡ at - start + (e - at) + 1 = omega arith in
               let h : hand start (e + 1) (n + 1) ≡ state_after_byte (Between true) e (extended_by (hand start at n) (e - at)) =
               ap (λ (m : ℕ). record { start = start; size = m; opened = e + 1; cells = n + 1 }) sized in
@@ -402,17 +402,17 @@ module _ (d : Dialect) (part : Bytes) (limit from room base : ℕ) (starts₀ en
     asked_lf : (first : FileState) {h : RecordState} {starts' ends' kinds' : List ℕ}
         → Scanning (call_of d part first limit from room base starts₀ ends₀ kinds₀) Cr (e + 1) h starts' ends' kinds' → e + 1 < length part
         → e + 1 < limit → get_or part (e + 1) 0 ≡ LF
-        → Asked (call_of d part first limit from room base starts₀ ends₀ kinds₀) Cr (e + 1) h starts' ends' kinds' (Is (To Begin (Ends false)))
+        → Asked (call_of d part first limit from room base starts₀ ends₀ kinds₀) Cr (e + 1) h starts' ends' kinds' (Is (Ok (Begin, Ends false)))
     unfolding file_step counts choose◌then◌else◌
     asked_lf first {h} w i u q =
-        let s : To Begin (Ends false) ≡ file_step d Cr (get_or part (e + 1) 0) = rw q in
+        let s : Ok (Begin, Ends false) ≡ file_step d Cr (get_or part (e + 1) 0) = rw q in
         record {
           scanning = w;
           inside = i;
           under = u;
           fits = rw q (no_and (leb MAXRECORD h.size));
           lies = s;
-          comes = byte_results d limit part Cr (e + 1) h.size i u (To Begin (Ends false)) s;
+          comes = byte_results d limit part Cr (e + 1) h.size i u (Ok (Begin, Ends false)) s;
         }
 
     -- after an ending the record is complete
@@ -435,8 +435,8 @@ module _ (d : Dialect) (part : Bytes) (limit from room base : ℕ) (starts₀ en
         let t = after k r.bounds r.past on g.opening g.scanning ends_at in
         let h : RecordState = state_after_byte (Tail true) e (extended_by (hand start at n) (e - at)) in
         let w = step_on k t Cr (Tail true) s true refl starts' ends' kinds' y.put h refl false refl refl in
-        let a : Asked k Cr (e + 1) h starts' ends' kinds' (Is (To Begin (Ends false))) = asked_lf first w (omega arith) (omega arith) z in
-        let v = by_byte k a (To Begin (Ends false)) refl in
+        let a : Asked k Cr (e + 1) h starts' ends' kinds' (Is (Ok (Begin, Ends false))) = asked_lf first w (omega arith) (omega arith) z in
+        let v = by_byte k a (Ok (Begin, Ends false)) refl in
         let o =
         step_over k v Begin (Ends false) refl false refl starts' ends' kinds' (
           not_stored false room (base + (n + 1)) (e + 1) starts' refl,

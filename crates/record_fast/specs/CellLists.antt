@@ -7,7 +7,7 @@ use Rattle.model.specs.rules.Text.{Value}
 use Rattle.model.specs.rules.Report.{MAXRECORD, MAXCOLUMNS}
 use Rattle.model.specs.rules.Api.{slice}
 use Rattle.model.specs.declared.Dialect.{Dialect}
-use Rattle.model.specs.declared.CellCheck.TheVariants.{WholeCell}
+use Rattle.std.specs.Prelude.{Ok}
 use Rattle.cell_decoder.specs.declared.source.Source.TheVariants.{File}
 use Rattle.cell_decoder.specs.Sources.{cells_in}
 
@@ -18,7 +18,7 @@ pub record LiesIn (d : Dialect) (file : Bytes) (v : Value) : Type 0 where
   pub forward : v.from ≤ v.upto
   pub within : v.upto ≤ length file
   pub short : v.upto ≤ v.from + MAXRECORD
-  pub sound : validate_cell d (slice file v.from v.upto) ≡ WholeCell
+  pub sound : validate_cell d (slice file v.from v.upto) ≡ Ok tt
 
 -- lists with room for the cells of any record
 pub record Long (starts ends kinds : List ℕ) : Type 0 where

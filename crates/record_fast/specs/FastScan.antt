@@ -8,7 +8,7 @@ use Rattle.model.specs.rules.Dialect.{quote_of}
 use Rattle.model.specs.rules.File.{after_cell}
 use Rattle.model.specs.declared.FileState.TheVariants.{Cr}
 use Rattle.model.specs.declared.ByteRole.TheVariants.{Tail, Ends}
-use Rattle.model.specs.declared.Step.TheVariants.{To}
+use Rattle.std.specs.Prelude.{Ok}
 use Rattle.model.specs.rules.Api.{slice}
 use Rattle.model.specs.laws.Scans.{RawCell, fresh}
 use Rattle.cell_fast.specs.Ends.{CleanCell}
@@ -33,8 +33,8 @@ pub data FirstCellAt (first : FileState) (part : Bytes) (from : ℕ) : ℕ → T
 
 -- what ends a record after its last cell, if it is found: one byte, or CR and LF
 pub data RecordEndSound (d : Dialect) (part : Bytes) (e stop : ℕ) : RecordEnd → Type 0 where
-  at_once : {f : FileState} → after_cell d true (get_or part e 0) ≡ To f (Ends true) → RecordEndSound d part e stop (closing.After f (e + 1))
-  by_pair : e + 1 < stop → after_cell d true (get_or part e 0) ≡ To Cr (Tail true) → get_or part (e + 1) 0 ≡ LF
+  at_once : {f : FileState} → after_cell d true (get_or part e 0) ≡ Ok (f, Ends true) → RecordEndSound d part e stop (closing.After f (e + 1))
+  by_pair : e + 1 < stop → after_cell d true (get_or part e 0) ≡ Ok (Cr, Tail true) → get_or part (e + 1) 0 ≡ LF
       → RecordEndSound d part e stop (closing.After Begin (e + 2))
   nowhere : RecordEndSound d part e stop closing.Fallback
 

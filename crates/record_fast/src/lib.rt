@@ -9,7 +9,7 @@ ghost use Rattle.std.specs.Prelude.{◌≡◌, true, ◌&&◌, ◌≤◌, ◌<�
 ghost use Rattle.model.specs.declared.Dialect.{Dialect};
 ghost use Rattle.model.specs.declared.FileState.TheVariants.{Cr, Ended};
 ghost use Rattle.model.specs.declared.ByteRole.TheVariants.{Tail};
-ghost use Rattle.model.specs.declared.Step.TheVariants.{To};
+ghost use Rattle.std.specs.Prelude.{Ok};
 ghost use Rattle.model.specs.rules.Dialect.{delimiter_of};
 ghost use Rattle.model.specs.rules.File.{after_cell};
 ghost use Rattle.model.specs.rules.Report.{MAXFILE};
@@ -75,7 +75,7 @@ pub enum RecordEnd {
 // CR and LF.
 fn crlf_end(part: &[u8], e: usize, stop: usize) -> RecordEnd
     requires { (e < stop) × (stop ≤ length part.now) }
-    ensures { (d : Dialect) → after_cell d true (get_or part.now e 0) ≡ To Cr (Tail true) → RecordEndSound d part.now e stop result }
+    ensures { (d : Dialect) → after_cell d true (get_or part.now e 0) ≡ Ok (Cr, Tail true) → RecordEndSound d part.now e stop result }
 {
     if stop - e < 2 {
         return RecordEnd::Fallback;
@@ -134,11 +134,11 @@ pub fn scan(
     ensures { FastScanSound d limit part.now from first room base starts.old ends.old kinds.old starts.new ends.new kinds.new result }
 {
     let start = record_start(first, part, from);
-    let most = codes::min_of(part.len(), limit);
+    let most = part.len().min(limit);
     if most <= start {
         return FastScan::Fallback;
     }
-    let stop = codes::min_of(most, start + MAX_RECORD);
+    let stop = most.min(start + MAX_RECORD);
     let p = cell_lexer::delimiter_of(d);
     let q = cell_lexer::quote_of(d);
     let mut clean = q == 0x22;

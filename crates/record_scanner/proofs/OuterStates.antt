@@ -15,19 +15,19 @@ use Rattle.model.specs.declared.Dialect.TheVariants.{Csvj, Tdif, CsvPlus}
 use Rattle.model.specs.declared.ByteFault.{ByteFault}
 use Rattle.model.specs.declared.FileState.{FileState}
 use Rattle.model.specs.declared.ByteRole.TheVariants.{Outside, Passed, OfCell, Between, Tail, Ends}
-use Rattle.model.specs.declared.Step.{Step}
-use Rattle.model.specs.declared.Step.TheVariants.{To, Reject}
+use Rattle.model.specs.rules.Types.{Step}
+use Rattle.std.specs.Prelude.{Ok, Err}
 use Rattle.record_scanner.specs.Tokens.{outer}
 
 pub data Calm (f : FileState) (b : ℕ) : Step → Type 0 where
-  refuses : {e : ByteFault} → Calm f b (Reject e)
-  leaves : {g : FileState} → outer f ≡ true → Calm f b (To g Outside)
-  passes : {g : FileState} → outer f ≡ true → Calm f b (To g Passed)
-  grows : {g : FileState} → counts f b ≡ true → outer g ≡ false → Calm f b (To g OfCell)
-  blanks : {g : FileState} → counts f b ≡ true → outer f ≡ true → Calm f b (To g (Between false))
-  parts : {g : FileState} {k : Bool} → counts f b ≡ true → outer g ≡ false → Calm f b (To g (Between k))
-  tails : {g : FileState} {k : Bool} → outer g ≡ false → Calm f b (To g (Tail k))
-  finishes : {g : FileState} {k : Bool} → outer g ≡ true → Calm f b (To g (Ends k))
+  refuses : {e : ByteFault} → Calm f b (Err e)
+  leaves : {g : FileState} → outer f ≡ true → Calm f b (Ok (g, Outside))
+  passes : {g : FileState} → outer f ≡ true → Calm f b (Ok (g, Passed))
+  grows : {g : FileState} → counts f b ≡ true → outer g ≡ false → Calm f b (Ok (g, OfCell))
+  blanks : {g : FileState} → counts f b ≡ true → outer f ≡ true → Calm f b (Ok (g, Between false))
+  parts : {g : FileState} {k : Bool} → counts f b ≡ true → outer g ≡ false → Calm f b (Ok (g, Between k))
+  tails : {g : FileState} {k : Bool} → outer g ≡ false → Calm f b (Ok (g, Tail k))
+  finishes : {g : FileState} {k : Bool} → outer g ≡ true → Calm f b (Ok (g, Ends k))
 
 module _ (f : FileState) (b : ℕ) where
   pub after_calm : (d : Dialect) (k : Bool) → Calm f b (after_cell d k b)

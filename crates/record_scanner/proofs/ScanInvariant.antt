@@ -41,8 +41,8 @@ use Rattle.model.specs.declared.FileState.{FileState}
 use Rattle.model.specs.declared.FileState.TheVariants.{Top, Begin, Ended, Bom1, Bom2, PlainBom1, PlainBom2, Comment, Blanks, ExpectCell, Inside, After, Cr}
 use Rattle.model.specs.declared.ByteRole.{ByteRole}
 use Rattle.model.specs.declared.ByteRole.TheVariants.{Outside, Passed, OfCell, Between, Tail, Ends}
-use Rattle.model.specs.declared.Step.{Step}
-use Rattle.model.specs.declared.Step.TheVariants.{To, Reject}
+use Rattle.model.specs.rules.Types.{Step}
+use Rattle.std.specs.Prelude.{Ok, Err}
 use Rattle.model.specs.declared.Fault.TheVariants.{Byte, FileTooLong, RecordTooLong}
 use Rattle.record_scanner.specs.declared.record_state.RecordState.{RecordState}
 use Rattle.record_scanner.specs.declared.token.Token.{Token}
@@ -245,11 +245,11 @@ module _ (call : Call) where
     put_same y = y
 
     module _ (g : FileState) (l : i < length part) (m : i < limit) where
-      goes_on : (p : ByteRole) → ends_record p ≡ false → Whole ≡ stepped_at d limit part f i h cs (To g p)
+      goes_on : (p : ByteRole) → ends_record p ≡ false → Whole ≡ stepped_at d limit part f i h cs (Ok (g, p))
           → Whole ≡ found_in d limit (scan_at part g (i + 1) (state_after_byte p i h) (cells_next p Here)) (drop (i + 1) part)
       goes_on p e w = w ∙ goes_to d limit part p f g i h cs q.opened l e
 
-      pub on : (p : ByteRole) → Calm f (get_or part i 0) (To g p) → ends_record p ≡ false → Whole ≡ stepped_at d limit part f i h cs (To g p)
+      pub on : (p : ByteRole) → Calm f (get_or part i 0) (Ok (g, p)) → ends_record p ≡ false → Whole ≡ stepped_at d limit part f i h cs (Ok (g, p))
           → {starts ends kinds : List ℕ} → Holds cs starts ends kinds
           → Scanning g (i + 1) (state_after_byte p i h) (PutStarts p starts) (PutEnds p ends) (PutKinds p kinds)
       on Outside (leaves o) e w y =
@@ -365,10 +365,10 @@ module _ (call : Call) where
   -- a byte that ends its record, or that is refused
   module _ {f : FileState} {i : ℕ} {h : RecordState} {cs : List RawCell} (q : InPart f i h cs) (l : i < length part) (m : i < limit)
       {starts ends kinds : List ℕ} (y : Holds cs starts ends kinds) where
-    refused : (x : ByteFault) → Whole ≡ stepped_at d limit part f i h cs (Reject x) → Out (reached.Failed (Byte x) i) starts ends kinds
+    refused : (x : ByteFault) → Whole ≡ stepped_at d limit part f i h cs (Err x) → Out (reached.Failed (Byte x) i) starts ends kinds
     refused x w = gives (record { answer = reached.Failed (Byte x) i; cells = cs }) (w ∙ refuses d limit part x f i h cs) y l
 
-    ends_here : (g : FileState) (k : Bool) → Whole ≡ stepped_at d limit part f i h cs (To g (Ends k))
+    ends_here : (g : FileState) (k : Bool) → Whole ≡ stepped_at d limit part f i h cs (Ok (g, Ends k))
         → Out (reached.Completed h.start (one_more k h.cells) g (i + 1)) (store_if k room (base + h.cells) h.opened starts)
         (store_if k room (base + h.cells) i ends) (store_if k room (base + h.cells) (kind_number (kind_of d (slice part h.opened i))) kinds)
     unfolding scan_step
@@ -386,7 +386,7 @@ module _ (call : Call) where
           cells = closing_raw k r;
         }) v (put_closing q k y) (omega arith, omega arith, omega arith, omega arith, one_more_few k base h.cells i q.few)
 
-    ends_record_lem : (g : FileState) (p : ByteRole) → ends_record p ≡ true → Whole ≡ stepped_at d limit part f i h cs (To g p)
+    ends_record_lem : (g : FileState) (p : ByteRole) → ends_record p ≡ true → Whole ≡ stepped_at d limit part f i h cs (Ok (g, p))
         → Out (reached.Completed (state_after_byte p i h).start (state_after_byte p i h).cells g (i + 1))
         (store_if (closes_cell p) room (base + h.cells) h.opened starts) (store_if (closes_cell p) room (base + h.cells) i ends)
         (store_if (closes_cell p) room (base + h.cells) (kind_number (kind_of d (slice part h.opened i))) kinds)
@@ -548,15 +548,15 @@ module _ (call : Call) where
 
   -- what the contracts of the calls say of a step
   module _ {f : FileState} {i : ℕ} {h : RecordState} {starts ends kinds : List ℕ} {s : Step} (y : Stepping f i h s starts ends kinds) where
-    pub step_refused : (x : ByteFault) → s ≡ Reject x → Out (reached.Failed (Byte x) i) starts ends kinds
+    pub step_refused : (x : ByteFault) → s ≡ Err x → Out (reached.Failed (Byte x) i) starts ends kinds
     step_refused x q = refused y.place y.inside y.under y.lists x (y.whole ∙ ap (λ (t : Step). stepped_at d limit part f i h y.cs t) q)
 
-    module _ (g : FileState) (p : ByteRole) (q : s ≡ To g p) (closes : Bool) (c : closes ≡ closes_cell p) (starts' ends' kinds' : List ℕ)
+    module _ (g : FileState) (p : ByteRole) (q : s ≡ Ok (g, p)) (closes : Bool) (c : closes ≡ closes_cell p) (starts' ends' kinds' : List ℕ)
         (put : (starts' ≡ store_if closes room (base + h.cells) h.opened
         starts) × ((ends' ≡ store_if closes room (base + h.cells) i ends) × (kinds' ≡ store_if closes room (base + h.cells)
         (kind_number (kind_of d (slice part h.opened i)))
         kinds))) (h' : RecordState) (eh : h' ≡ state_after_byte p i h) (over : Bool) (eo : over ≡ ends_record p) where
-      stepped_to : Whole ≡ stepped_at d limit part f i h y.cs (To g p)
+      stepped_to : Whole ≡ stepped_at d limit part f i h y.cs (Ok (g, p))
       stepped_to = y.whole ∙ ap (λ (t : Step). stepped_at d limit part f i h y.cs t) q
 
       put_starts : starts' ≡ store_if (closes_cell p) room (base + h.cells) h.opened starts

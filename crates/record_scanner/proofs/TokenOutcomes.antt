@@ -34,14 +34,14 @@ use Rattle.model.specs.declared.FileState.{FileState}
 use Rattle.model.specs.declared.FileState.TheVariants.{Top, Begin, Ended, Bom1, Bom2, PlainBom1, PlainBom2, Comment, Blanks, ExpectCell, Inside, After, Cr}
 use Rattle.model.specs.declared.ByteRole.{ByteRole}
 use Rattle.model.specs.declared.ByteRole.TheVariants.{Outside, Passed, OfCell, Between, Tail, Ends}
-use Rattle.model.specs.declared.Step.{Step}
-use Rattle.model.specs.declared.Step.TheVariants.{To, Reject}
+use Rattle.model.specs.rules.Types.{Step}
+use Rattle.std.specs.Prelude.{Ok, Err}
 use Rattle.model.specs.declared.Fault.TheVariants.{Byte}
 use Rattle.record_scanner.specs.Types.{RecordState, Token, Is, Skipped, AfterCell, Refused, Open}
 use Rattle.record_scanner.specs.CurrentRecord.{ends_record, state_after_byte, extended_by}
 use Rattle.record_scanner.specs.Parts.{Found, found_of, found_in}
 use Rattle.record_scanner.specs.declared.token.ScanOutcome.TheVariants as reached
-use Rattle.model.specs.rules.Api.{least}
+use Rattle.std.specs.Prelude.{min}
 use Rattle.codes.proofs.Least.{least_first, least_second, least_above}
 use Rattle.record_scanner.specs.Tokens.{scan_at, cells_next, stepped_at, met_next, Free, TokenCorrect, TokenInBounds, comment_end}
 
@@ -59,7 +59,7 @@ module _ (d : Dialect) (limit : ℕ) (part : Bytes) where
   -- after a byte that does not end its record, scanning is described by the record's numbers after it
   pub goes_to : (p : ByteRole) (f g : FileState) (i : ℕ) (h : RecordState) (cs : List RawCell) → h.opened ≤ i → i < length part
       → ends_record p ≡ false
-      → stepped_at d limit part f i h cs (To g p) ≡ found_in d limit
+      → stepped_at d limit part f i h cs (Ok (g, p)) ≡ found_in d limit
       (scan_at part g (i + 1) (state_after_byte p i h) (cells_next p (scan_at part f i h cs))) (drop (i + 1) part)
   unfolding scan_step
   goes_to Outside f g i h cs o l e = let n : slice part (i + 1) (i + 1) ≡ [] = part_end part (i + 1) in rw (n, add-one i)
@@ -73,7 +73,7 @@ module _ (d : Dialect) (limit : ℕ) (part : Bytes) where
 
   -- a byte that is refused
   pub refuses : (x : ByteFault) (f : FileState) (i : ℕ) (h : RecordState) (cs : List RawCell)
-      → stepped_at d limit part f i h cs (Reject x) ≡ record { answer = reached.Failed (Byte x) i; cells = cs }
+      → stepped_at d limit part f i h cs (Err x) ≡ record { answer = reached.Failed (Byte x) i; cells = cs }
   unfolding scan_step
   refuses x f i h cs = refl
 
@@ -143,16 +143,16 @@ run_before d c i (b ∷ bs) = go (cell_step d c b) (λ t. run_before d t (suc i)
 step_form : (part : Bytes) (f g : FileState) (j b : ℕ) (h : RecordState) (cs : List RawCell) (left : Bytes) (more : Scan → ScanResult)
     (s : Step) → found_of (scan_step (scan_at part f j h cs) b left more s) ≡ found_of (scan_step (scan_at part g j h cs) b left more s)
 unfolding scan_step
-step_form part f g j b h cs left more (Reject e) = refl
-step_form part f g j b h cs left more (To t Outside) = refl
-step_form part f g j b h cs left more (To t Passed) = refl
-step_form part f g j b h cs left more (To t OfCell) = refl
-step_form part f g j b h cs left more (To t (Between true)) = refl
-step_form part f g j b h cs left more (To t (Between false)) = refl
-step_form part f g j b h cs left more (To t (Tail true)) = refl
-step_form part f g j b h cs left more (To t (Tail false)) = refl
-step_form part f g j b h cs left more (To t (Ends true)) = refl
-step_form part f g j b h cs left more (To t (Ends false)) = refl
+step_form part f g j b h cs left more (Err e) = refl
+step_form part f g j b h cs left more (Ok (t, Outside)) = refl
+step_form part f g j b h cs left more (Ok (t, Passed)) = refl
+step_form part f g j b h cs left more (Ok (t, OfCell)) = refl
+step_form part f g j b h cs left more (Ok (t, Between true)) = refl
+step_form part f g j b h cs left more (Ok (t, Between false)) = refl
+step_form part f g j b h cs left more (Ok (t, Tail true)) = refl
+step_form part f g j b h cs left more (Ok (t, Tail false)) = refl
+step_form part f g j b h cs left more (Ok (t, Ends true)) = refl
+step_form part f g j b h cs left more (Ok (t, Ends false)) = refl
 
 module _ (d : Dialect) (limit : ℕ) (part : Bytes) (cs : List RawCell) (stop : ℕ) (inside : stop ≤ length part) (under : stop ≤ limit) where
   abbrev Runs : FileState → (i : ℕ) → RecordState → Cell → Type 0
@@ -232,15 +232,15 @@ module _ (d : Dialect) (limit : ℕ) (part : Bytes) (cs : List RawCell) (stop : 
 -- ---- limits
 
 pub many_free : (length limit i size : ℕ) → i < length → i < limit → size < MAXRECORD
-    → Free length limit i size (least (least length limit) (i + (MAXRECORD - size)))
+    → Free length limit i size (min (min length limit) (i + (MAXRECORD - size)))
 many_free n limit i size h k l =
-    let a : least (least n limit) (i + (MAXRECORD - size)) ≤ least n limit = least_first (least n limit) (i + (MAXRECORD - size)) in
-    let b : least (least n limit) (i + (MAXRECORD - size)) ≤ i + (MAXRECORD - size) = least_second (least n limit) (i + (MAXRECORD - size)) in
-    let c : least n limit ≤ n = least_first n limit in
-    let d : least n limit ≤ limit = least_second n limit in
-    let e : i < least n limit = least_above i n limit h k in
+    let a : min (min n limit) (i + (MAXRECORD - size)) ≤ min n limit = least_first (min n limit) (i + (MAXRECORD - size)) in
+    let b : min (min n limit) (i + (MAXRECORD - size)) ≤ i + (MAXRECORD - size) = least_second (min n limit) (i + (MAXRECORD - size)) in
+    let c : min n limit ≤ n = least_first n limit in
+    let d : min n limit ≤ limit = least_second n limit in
+    let e : i < min n limit = least_above i n limit h k in
     let f : i < i + (MAXRECORD - size) = omega arith in
-    record { on = least_above i (least n limit) (i + (MAXRECORD - size)) e f; inside = omega arith; under = omega arith; fits = λ _. omega arith }
+    record { on = least_above i (min n limit) (i + (MAXRECORD - size)) e f; inside = omega arith; under = omega arith; fits = λ _. omega arith }
 
 -- ---- the token, by the lexer's result
 
@@ -362,7 +362,7 @@ comment_skips d limit part i size stop l inside under more = go (ordinary 0 0 (g
 pub comment_results : (d : Dialect) (limit : ℕ) (part : Bytes) (f : FileState) (i size : ℕ) → i < length part → i < limit
     → i < comment_end f part limit i → TokenCorrect d limit part f i size (Skipped (comment_end f part limit i))
 comment_results d limit part (Comment Whole) i size l m more =
-    comment_skips d limit part i size (least (length part) limit) (least_above i (length part) limit l m) (least_first (length part) limit)
+    comment_skips d limit part i size (min (length part) limit) (least_above i (length part) limit l m) (least_first (length part) limit)
     (least_second (length part) limit) more
 comment_results d limit part Top i size l m more = absurd (omega arith)
 comment_results d limit part Begin i size l m more = absurd (omega arith)
@@ -381,11 +381,11 @@ comment_results d limit part Cr i size l m more = absurd (omega arith)
 pub comment_lies : (d : Dialect) (limit : ℕ) (part : Bytes) (f : FileState) (i : ℕ) → i < length part → i < limit
     → i < comment_end f part limit i → TokenInBounds d limit part f i (Skipped (comment_end f part limit i))
 comment_lies d limit part (Comment Whole) i l m more =
-    let a : i < least (length part) limit = least_above i (length part) limit l m in
-    let b : least (length part) limit ≤ length part = least_first (length part) limit in
-    let c : least (length part) limit ≤ limit = least_second (length part) limit in
-    let e : i + leading 0 0 (slice part i (least (length part) limit)) ≤ least (length part) limit =
-    part_short 0 0 part i (least (length part) limit) (omega arith) b in
+    let a : i < min (length part) limit = least_above i (length part) limit l m in
+    let b : min (length part) limit ≤ length part = least_first (length part) limit in
+    let c : min (length part) limit ≤ limit = least_second (length part) limit in
+    let e : i + leading 0 0 (slice part i (min (length part) limit)) ≤ min (length part) limit =
+    part_short 0 0 part i (min (length part) limit) (omega arith) b in
     (refl, more, omega arith, omega arith)
 comment_lies d limit part Top i l m more = absurd (omega arith)
 comment_lies d limit part Begin i l m more = absurd (omega arith)

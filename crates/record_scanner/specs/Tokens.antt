@@ -4,7 +4,8 @@ use Rattle.model.specs.rules.Base.{Bytes}
 use Rattle.model.specs.rules.File.{after_cell, file_step, counts}
 use Rattle.model.specs.rules.Report.{MAXRECORD}
 use Rattle.model.specs.laws.Scans.{RawCell, Scan, closing_raw, scan_step, scan}
-use Rattle.model.specs.rules.Api.{least, slice}
+use Rattle.std.specs.Prelude.{min}
+use Rattle.model.specs.rules.Api.{slice}
 use Rattle.cell_scanner.specs.Run.{leading}
 use Rattle.model.specs.declared.Dialect.{Dialect}
 use Rattle.model.specs.declared.Char.TheVariants.{Whole, Within}
@@ -12,7 +13,7 @@ use Rattle.model.specs.declared.FileState.{FileState}
 use Rattle.model.specs.declared.FileState.TheVariants.{Top, Begin, Ended, Bom1, Bom2, PlainBom1, PlainBom2, Comment, Blanks, ExpectCell, Inside, After, Cr}
 use Rattle.model.specs.declared.ByteRole.{ByteRole}
 use Rattle.model.specs.declared.ByteRole.TheVariants.{Outside, Passed, OfCell, Between, Tail, Ends}
-use Rattle.model.specs.declared.Step.{Step}
+use Rattle.model.specs.rules.Types.{Step}
 use Rattle.model.specs.declared.Fault.TheVariants.{Byte}
 use Rattle.record_scanner.specs.Types.{RecordState, Token, Is, Skipped, AfterCell, Refused, Open}
 use Rattle.record_scanner.specs.declared.token.ScanOutcome.TheVariants as reached
@@ -64,7 +65,7 @@ comment_end Bom1 part limit i = i
 comment_end Bom2 part limit i = i
 comment_end PlainBom1 part limit i = i
 comment_end PlainBom2 part limit i = i
-comment_end (Comment Whole) part limit i = i + leading 0 0 (slice part i (least (length part) limit))
+comment_end (Comment Whole) part limit i = i + leading 0 0 (slice part i (min (length part) limit))
 comment_end (Comment (Within n)) part limit i = i
 comment_end Blanks part limit i = i
 comment_end ExpectCell part limit i = i

@@ -16,7 +16,7 @@ ghost use Rattle.record_scanner.specs.Stored.{stored_from};
 
 use crate::record_state::RecordState;
 use crate::token::{ScanOutcome, Token};
-use model::{ByteRole, Dialect, Fault, FileState, Step};
+use model::{ByteRole, Dialect, Fault, FileState};
 
 pub mod limits;
 pub mod record_state;
@@ -72,13 +72,13 @@ pub fn scan(
         }
         match crate::token::next_token(d, part, state, i, h.size, limit) {
             Token::Is(s) => match s {
-                Step::Reject(e) => {
+                Err(e) => {
                     return ScanOutcome::Failed {
                         fault: Fault::Byte(e),
                         offset: i,
                     };
                 }
-                Step::To(f, p) => {
+                Ok((f, p)) => {
                     store::store_cell(
                         record_state::closes_cell(p),
                         d,
@@ -114,13 +114,13 @@ pub fn scan(
                 h = record_state::after_bytes(h, j - i);
                 i = j;
                 match file_lexer::separators::after_cell(d, closes, part[j]) {
-                    Step::Reject(e) => {
+                    Err(e) => {
                         return ScanOutcome::Failed {
                             fault: Fault::Byte(e),
                             offset: i,
                         };
                     }
-                    Step::To(f, p) => {
+                    Ok((f, p)) => {
                         store::store_cell(
                             record_state::closes_cell(p),
                             d,

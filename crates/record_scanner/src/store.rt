@@ -29,7 +29,7 @@ pub fn store_cell(
         if k < room {
             starts[k] = opened;
             ends[k] = i;
-            kinds[k] = codes::kind_number(codes::cell::kind_of(d, &part[opened..i]));
+            kinds[k] = u8::from(codes::cell::kind_of(d, &part[opened..i]));
             return;
         }
         return;

@@ -7,9 +7,9 @@ ghost use Rattle.record_scanner.specs.Tokens.{TokenCorrect, TokenInBounds, Free,
 
 use crate::record_state::RecordState;
 use cell_scanner::CellEnd;
-use codes::{MAX_RECORD, min_of};
+use codes::MAX_RECORD;
 use file_lexer::Dispatched;
-use model::{ByteFault, Cell, Char, Dialect, Fault, FileState, Step};
+use model::{ByteFault, ByteRole, Cell, Char, Dialect, Fault, FileState};
 
 // The outcome of scanning a part of a file. All offsets are those of the part.
 #[derive(Clone, Copy)]
@@ -37,7 +37,7 @@ pub enum ScanOutcome {
 #[derive(Clone, Copy)]
 pub enum Token {
     // The next byte takes this step.
-    Is(Step),
+    Is(Result<(FileState, ByteRole), ByteFault>),
     // Ordinary bytes of a comment, up to here.
     Skipped(usize),
     // The byte here follows a cell that ends before it (`closes`), or blanks after a cell.
@@ -56,7 +56,7 @@ fn limit_end(total: usize, i: usize, size: usize, limit: usize) -> usize
     if MAX_RECORD <= size {
         return i + 1;
     }
-    min_of(min_of(total, limit), i + (MAX_RECORD - size))
+    total.min(limit).min(i + (MAX_RECORD - size))
 }
 
 // The end of a comment's ordinary bytes, if reading is in one.
@@ -66,7 +66,7 @@ fn comment_end(f: FileState, part: &[u8], i: usize, limit: usize) -> usize
 {
     match f {
         FileState::Comment(t) => match t {
-            Char::Whole => cell_scanner::comment_run(part, i, min_of(part.len(), limit)),
+            Char::Whole => cell_scanner::comment_run(part, i, part.len().min(limit)),
             Char::Within(_) => i,
         },
         _ => i,

@@ -11,8 +11,8 @@ use Rattle.model.specs.declared.Dialect.{Dialect}
 use Rattle.model.specs.declared.Dialect.TheVariants.{Csvj, Tdif, CsvPlus}
 use Rattle.model.specs.declared.Fault.{Fault}
 use Rattle.model.specs.declared.Fault.TheVariants.{NoCells, TextTooLong, OutputTooLong}
-use Rattle.model.specs.declared.CheckResult.{CheckResult}
-use Rattle.model.specs.declared.CheckResult.TheVariants.{Sound, Faulty}
+use Rattle.model.specs.rules.Types.{CheckResult}
+use Rattle.std.specs.Prelude.{Ok, Err}
 use Rattle.model.specs.rules.Base.{Bytes, choose◌then◌else◌, is_empty}
 use Rattle.model.specs.rules.Dialect.{is_csvj, into}
 use Rattle.model.specs.rules.Text.{Value, record_text, ending}
@@ -38,12 +38,12 @@ measure_over n end e h =
     split_on (leb MAXFILE n) (λ b. omega (arith, leb-true MAXFILE n b)) (λ b. omega (arith, e, measure_within n (omega (arith, leb-false MAXFILE n b))))
 
 module _ (t : Dialect) (written : ℕ) (text : Bytes) (v : CheckResult) (size : ℕ) where
-  pub text_too_long : v ≡ Faulty TextTooLong → MAXRECORD < length text → Sized t written text v size
+  pub text_too_long : v ≡ Err TextTooLong → MAXRECORD < length text → Sized t written text v size
   unfolding when ◌or_else◌
   text_too_long e h = record { says = rw (lt-ltb MAXRECORD (length text) h) e; long = λ s. fault_sound (sym e ∙ s) }
 
   module _ (short : length text ≤ MAXRECORD) where
-    pub output_too_long : v ≡ Faulty OutputTooLong → MAXFILE < written + (length text + length (ending t)) → Sized t written text v size
+    pub output_too_long : v ≡ Err OutputTooLong → MAXFILE < written + (length text + length (ending t)) → Sized t written text v size
     unfolding when ◌or_else◌
     output_too_long e h =
         let all : length (text ++ ending t) ≡ length text + length (ending t) = length-append text (ending t) in
@@ -52,7 +52,7 @@ module _ (t : Dialect) (written : ℕ) (text : Bytes) (v : CheckResult) (size : 
           long = λ s. fault_sound (sym e ∙ s);
         }
 
-    pub fits : v ≡ Sound → size ≡ length text + length (ending t) → written + size ≤ MAXFILE → Sized t written text v size
+    pub fits : v ≡ Ok tt → size ≡ length text + length (ending t) → written + size ≤ MAXFILE → Sized t written text v size
     unfolding when ◌or_else◌
     fits e n h =
         let all : length (text ++ ending t) ≡ length text + length (ending t) = length-append text (ending t) in
@@ -64,21 +64,21 @@ module _ (t : Dialect) (written : ℕ) (text : Bytes) (v : CheckResult) (size : 
 -- ---- reason by reason
 
 module _ (t : Dialect) (header : Bool) (written : ℕ) (vs : List Value) where
-  pub no_cells : (header && is_empty vs && not (is_csvj t)) ≡ true → target_fault (into t) header written vs ≡ Faulty NoCells
+  pub no_cells : (header && is_empty vs && not (is_csvj t)) ≡ true → target_fault (into t) header written vs ≡ Err NoCells
   unfolding target_fault when ◌or_else◌
   no_cells h = rw h
 
   module _ (some : (header && is_empty vs && not (is_csvj t)) ≡ false) where
-    pub lacks : (e : Fault) → uncarried_from t 1 vs ≡ Faulty e → target_fault (into t) header written vs ≡ Faulty e
+    pub lacks : (e : Fault) → uncarried_from t 1 vs ≡ Err e → target_fault (into t) header written vs ≡ Err e
     unfolding target_fault when ◌or_else◌
     lacks e h = rw (some, h)
 
-    module _ (carries : uncarried_from t 1 vs ≡ Sound) where
-      pub clashes : (e : Fault) → clash_fault t header vs ≡ Faulty e → target_fault (into t) header written vs ≡ Faulty e
+    module _ (carries : uncarried_from t 1 vs ≡ Ok tt) where
+      pub clashes : (e : Fault) → clash_fault t header vs ≡ Err e → target_fault (into t) header written vs ≡ Err e
       unfolding target_fault when ◌or_else◌
       clashes e h = rw (some, carries, h)
 
-      pub by_length : clash_fault t header vs ≡ Sound → target_fault (into t) header written vs ≡ length_fault t written (record_text (into t) header vs)
+      pub by_length : clash_fault t header vs ≡ Ok tt → target_fault (into t) header written vs ≡ length_fault t written (record_text (into t) header vs)
       unfolding target_fault when ◌or_else◌
       by_length h = rw (some, carries, h)
 

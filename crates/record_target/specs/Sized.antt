@@ -2,8 +2,8 @@
 use Rattle.std.specs.Prelude.{ℕ, ◌+◌, ◌≡◌, ◌++◌, length, ltb}
 use Rattle.model.specs.declared.Dialect.{Dialect}
 use Rattle.model.specs.declared.Fault.TheVariants.{TextTooLong, OutputTooLong}
-use Rattle.model.specs.declared.CheckResult.{CheckResult}
-use Rattle.model.specs.declared.CheckResult.TheVariants.{Sound}
+use Rattle.model.specs.rules.Types.{CheckResult}
+use Rattle.std.specs.Prelude.{Ok}
 use Rattle.model.specs.rules.Base.{Bytes}
 use Rattle.model.specs.rules.Text.{ending}
 use Rattle.model.specs.rules.Records.{◌or_else◌, when}
@@ -18,4 +18,4 @@ length_fault t written text =
 -- the check result for a text's length; without a fault, `size` is the length of the text with its ending
 pub record Sized (t : Dialect) (written : ℕ) (text : Bytes) (verdict : CheckResult) (size : ℕ) : Type 0 where
   pub says : verdict ≡ length_fault t written text
-  pub long : verdict ≡ Sound → size ≡ length (text ++ ending t)
+  pub long : verdict ≡ Ok tt → size ≡ length (text ++ ending t)

@@ -7,7 +7,7 @@
 #![tactic(auto)]
 
 ghost use Rattle.std.specs.Prelude.{◌≡◌, not, ◌&&◌, List, ◌++◌, ℕ, ◌+◌, ◌≤◌, length, true, false};
-ghost use Rattle.model.specs.declared.CheckResult.TheVariants.{Sound, Faulty};
+ghost use Rattle.std.specs.Prelude.{Ok, Err};
 ghost use Rattle.model.specs.rules.Base.{Bytes, is_empty};
 ghost use Rattle.model.specs.rules.Dialect.{is_csvj, into};
 ghost use Rattle.model.specs.rules.Text.{Value, record_text, ending};
@@ -23,14 +23,14 @@ ghost use Rattle.record_target.specs.Sized.{Sized};
 
 use cell_decoder::source::Source;
 use codes::{MAX_FILE, MAX_RECORD};
-use model::{CheckResult, Dialect, Fault, Report};
+use model::{Dialect, Fault, Report};
 use record_check::names::Repeat;
 use record_writer::record::RecordText;
 use record_writer::{line, record};
 
 #[derive(Clone, Copy)]
 pub struct TargetCheck {
-    pub verdict: CheckResult,
+    pub verdict: Result<(), Fault>,
     // Where there is no fault, how long the record's text is with its ending.
     pub length: usize,
 }
@@ -44,10 +44,10 @@ pub enum Measurement {
 }
 
 fn refused(fault: Fault) -> TargetCheck
-    ensures { result.verdict ≡ Faulty fault }
+    ensures { result.verdict ≡ Err fault }
 {
     TargetCheck {
-        verdict: CheckResult::Faulty(fault),
+        verdict: Err(fault),
         length: 0,
     }
 }
@@ -114,17 +114,17 @@ fn name_clash(
     starts: &[usize],
     ends: &[usize],
     header: bool,
-) -> CheckResult
+) -> Result<(), Fault>
     requires { NamesIn src s.now starts.now ends.now }
     ensures { (kinds : List ℕ) → length kinds ≡ length starts.now
         → result ≡ clash_fault t header (cells_in src s.now starts.now ends.now kinds) }
 {
     if !header {
-        return CheckResult::Sound;
+        return Ok(());
     }
     match record_check::names::first_repeat(src, t, s, starts, ends) {
-        Repeat::NoRepeat => CheckResult::Sound,
-        Repeat::AtColumn(column) => CheckResult::Faulty(Fault::Clash { column }),
+        Repeat::NoRepeat => Ok(()),
+        Repeat::AtColumn(column) => Err(Fault::Clash { column }),
     }
 }
 
@@ -152,7 +152,7 @@ fn check_size(t: Dialect, end: usize, written: usize) -> TargetCheck
         return refused(Fault::OutputTooLong);
     }
     TargetCheck {
-        verdict: CheckResult::Sound,
+        verdict: Ok(()),
         length,
     }
 }
@@ -177,7 +177,7 @@ pub fn check_target(
     requires written_bound { written ≤ MAXFILE }
     ensures verdict_value { result.verdict ≡ target_fault (into t) header written
         (cells_in src s.now starts.now ends.now kinds.now) }
-    ensures length_value { result.verdict ≡ Sound → result.length ≡ length (record_text (into t) header
+    ensures length_value { result.verdict ≡ Ok tt → result.length ≡ length (record_text (into t) header
         (cells_in src s.now starts.now ends.now kinds.now) ++ ending t) }
 {
     if lacks_cells(t, header, starts.len()) {
@@ -185,10 +185,10 @@ pub fn check_target(
     }
     let x = measure(src, t, s, starts, ends, kinds, header, clean);
     let carries = x.carries;
-    if let CheckResult::Faulty(e) = carries {
+    if let Err(e) = carries {
         return refused(e);
     }
-    if let CheckResult::Faulty(e) = name_clash(src, t, s, starts, ends, header) {
+    if let Err(e) = name_clash(src, t, s, starts, ends, header) {
         return refused(e);
     }
     check_size(t, x.end, written)
@@ -216,11 +216,11 @@ pub fn check_record(
         source_fault d header columns (cells_in (File d) s.now starts.now ends.now kinds.now)
         or_else target_fault (into t) header written
         (cells_in (File d) s.now starts.now ends.now kinds.now)) }
-    ensures length_value { result.verdict ≡ Sound → result.length ≡ length (record_text (into t) header
+    ensures length_value { result.verdict ≡ Ok tt → result.length ≡ length (record_text (into t) header
         (cells_in (File d) s.now starts.now ends.now kinds.now) ++ ending t) }
 {
     let src = Source::File(d);
-    if let CheckResult::Faulty(e) = record_check::check(
+    if let Err(e) = record_check::check(
         src, d, s, starts, ends, kinds, header, columns,
     ) {
         return refused(e);

@@ -8,7 +8,7 @@ use Rattle.model.specs.declared.Dialect.{Dialect}
 use Rattle.model.specs.declared.Dialect.TheVariants.{Csvj, Tdif, CsvPlus}
 use Rattle.model.specs.declared.Kind.{Kind}
 use Rattle.model.specs.declared.Kind.TheVariants.{Text}
-use Rattle.model.specs.declared.CheckResult.TheVariants.{Sound}
+use Rattle.std.specs.Prelude.{Ok}
 use Rattle.model.specs.rules.Base.{Bytes, is_empty, QUOTE}
 use Rattle.model.specs.rules.Dialect.{quote_of, delimiter_of, is_csvj}
 use Rattle.model.specs.rules.Decode.{content_of}
@@ -67,7 +67,7 @@ module _ {d : Dialect} {raw : Bytes} (c : Known d raw) {k : Kind} (e : k ≡ Tex
   carried_by Tdif = rw e
   carried_by (CsvPlus s) = rw e
 
-  pub clean_carried : (t : Dialect) (n : ℕ) → uncarried_cell t n k (content_of d raw) ≡ Sound
+  pub clean_carried : (t : Dialect) (n : ℕ) → uncarried_cell t n k (content_of d raw) ≡ Ok tt
   clean_carried t n =
       split_on (is_csvj t) (λ j. csvj_carries t n k (content_of d raw) j) λ j.
       cell_sound t n k (content_of d raw) (carried_by t) j (rw e) (rw c.content c.no_lone)

@@ -7,7 +7,7 @@ use Prim.Native.Nat.{ℕ}
 use lib.Dec.{eqb}
 use lib.ListN.{length}
 use Rattle.model.specs.declared.Dialect.{Dialect}
-use Rattle.model.specs.declared.CheckResult.TheVariants.{Sound}
+use Rattle.std.specs.Prelude.{Ok}
 use Rattle.model.specs.rules.Base.{Bytes, COMMA, QUOTE}
 use Rattle.model.specs.rules.Dialect.{quote_of, delimiter_of, into}
 use Rattle.model.specs.rules.Text.{record_text}
@@ -45,5 +45,5 @@ module _ (t : Dialect) (s : Bytes) (starts ends kinds : List ℕ) where
 
   -- every target can represent it
   pub clean_carried : {src : Source} {header : Bool} → Cells src s starts ends kinds → CleanRecord s starts ends src header
-      → Sound ≡ uncarried_from t 1 (cells_in src s starts ends kinds)
+      → Ok tt ≡ uncarried_from t 1 (cells_in src s starts ends kinds)
   clean_carried cells (clean_data {d} clean) = record_carried d t s starts ends kinds cells clean

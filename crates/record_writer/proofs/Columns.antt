@@ -12,8 +12,8 @@ use Rattle.model.specs.declared.Dialect.{Dialect}
 use Rattle.model.specs.declared.Dialect.TheVariants.{Csvj, Tdif, CsvPlus}
 use Rattle.model.specs.declared.Fault.TheVariants.{LacksKind, LoneSurrogate}
 use Rattle.model.specs.declared.Kind.{Kind}
-use Rattle.model.specs.declared.CheckResult.{CheckResult}
-use Rattle.model.specs.declared.CheckResult.TheVariants.{Sound, Faulty}
+use Rattle.model.specs.rules.Types.{CheckResult}
+use Rattle.std.specs.Prelude.{Ok, Err}
 use Rattle.model.specs.rules.Base.{Bytes, is_empty}
 use Rattle.model.specs.rules.Dialect.{is_csvj, delimiter_of, into}
 use Rattle.model.specs.rules.Text.{Value, is_text, cell_text, more_cells, all_cells, record_text}
@@ -54,45 +54,45 @@ cell_anywhere Tdif only first v w k c = rw (k, c)
 cell_anywhere (CsvPlus s) only first v w k c = rw c
 
 module _ (t : Dialect) (n : ℕ) (k : Kind) (content : Bytes) where
-  pub cell_lacks : has_kind t k ≡ false → uncarried_cell t n k content ≡ Faulty (LacksKind n)
+  pub cell_lacks : has_kind t k ≡ false → uncarried_cell t n k content ≡ Err (LacksKind n)
   unfolding when ◌or_else◌
   cell_lacks h = rw h
 
   module _ (h : has_kind t k ≡ true) where
-    pub cell_in_csvj : is_csvj t ≡ true → uncarried_cell t n k content ≡ Sound
+    pub cell_in_csvj : is_csvj t ≡ true → uncarried_cell t n k content ≡ Ok tt
     unfolding when ◌or_else◌
     cell_in_csvj j = rw (h, j)
 
     module _ (j : is_csvj t ≡ false) where
-      pub cell_no_text : is_text k ≡ false → uncarried_cell t n k content ≡ Sound
+      pub cell_no_text : is_text k ≡ false → uncarried_cell t n k content ≡ Ok tt
       unfolding when ◌or_else◌
       cell_no_text e = rw (h, j, e)
 
       module _ (e : is_text k ≡ true) where
-        pub cell_lone : holds_lone content ≡ true → uncarried_cell t n k content ≡ Faulty (LoneSurrogate n)
+        pub cell_lone : holds_lone content ≡ true → uncarried_cell t n k content ≡ Err (LoneSurrogate n)
         unfolding when ◌or_else◌
         cell_lone l = rw (h, j, e, l)
 
-        pub cell_sound : holds_lone content ≡ false → uncarried_cell t n k content ≡ Sound
+        pub cell_sound : holds_lone content ≡ false → uncarried_cell t n k content ≡ Ok tt
         unfolding when ◌or_else◌
         cell_sound l = rw (h, j, e, l)
 
 -- CSVJ can represent every cell
-pub csvj_carries : (t : Dialect) (n : ℕ) (k : Kind) (content : Bytes) → is_csvj t ≡ true → uncarried_cell t n k content ≡ Sound
+pub csvj_carries : (t : Dialect) (n : ℕ) (k : Kind) (content : Bytes) → is_csvj t ≡ true → uncarried_cell t n k content ≡ Ok tt
 csvj_carries Csvj n k content j = cell_in_csvj Csvj n k content refl j
 csvj_carries Tdif n k content j = impossible j
 csvj_carries (CsvPlus s) n k content j = impossible j
 
 -- ---- two verdicts
 
-pub or_else_sound : (a : CheckResult) → a or_else Sound ≡ a
+pub or_else_sound : (a : CheckResult) → a or_else Ok tt ≡ a
 unfolding ◌or_else◌
-or_else_sound Sound = refl
-or_else_sound (Faulty e) = refl
+or_else_sound (Ok _) = refl
+or_else_sound (Err e) = refl
 
 -- ---- the check result so far
 
-pub said_nothing : (column : ℕ) (lone : Bool) → column ≡ 0 → check_of column lone ≡ Sound
+pub said_nothing : (column : ℕ) (lone : Bool) → column ≡ 0 → check_of column lone ≡ Ok tt
 said_nothing zero lone e = refl
 said_nothing (suc n) lone e = absurd (omega arith)
 
@@ -109,11 +109,11 @@ said_before zero lone v e = absurd (e refl)
 said_before (suc n) true v e = refl
 said_before (suc n) false v e = refl
 
-pub says_lone : (column : ℕ) → (column ≡ 0 → ⊥) → check_of column true ≡ Faulty (LoneSurrogate column)
+pub says_lone : (column : ℕ) → (column ≡ 0 → ⊥) → check_of column true ≡ Err (LoneSurrogate column)
 says_lone zero e = absurd (e refl)
 says_lone (suc n) e = refl
 
-pub says_lacks : (column : ℕ) → (column ≡ 0 → ⊥) → check_of column false ≡ Faulty (LacksKind column)
+pub says_lacks : (column : ℕ) → (column ≡ 0 → ⊥) → check_of column false ≡ Err (LacksKind column)
 says_lacks zero e = absurd (e refl)
 says_lacks (suc n) e = refl
 
@@ -164,7 +164,7 @@ module _ (src : Source) (t : Dialect) (s : Bytes) (starts ends kinds : List ℕ)
     pub text_end : length starts ≤ n → text_at n ≡ []
     text_end h = rw (cells_end src s starts ends kinds e k n h) (none_left t header n)
 
-    pub uncarried_end : length starts ≤ n → uncarried_at n ≡ Sound
+    pub uncarried_end : length starts ≤ n → uncarried_at n ≡ Ok tt
     unfolding uncarried_from
     uncarried_end h = rw (cells_end src s starts ends kinds e k n h)
 
@@ -223,6 +223,6 @@ pub record WrittenUpTo (src : Source) (t : Dialect) (s : Bytes) (starts ends kin
 
 pub written_none : (src : Source) (t : Dialect) (s : Bytes) (starts ends kinds : List ℕ) (header : Bool) (old : Bytes) (at : ℕ) (write : Bool)
     → Room write at (record_text (into t) header (cells_in src s starts ends kinds)) old →
-    WrittenUpTo src t s starts ends kinds header old at write old 0 at Sound
+    WrittenUpTo src t s starts ends kinds header old at write old 0 at (Ok tt)
 unfolding record_text ◌or_else◌
 written_none src t s starts ends kinds header old at write h = record { going = emitting write h; says = refl; within = omega arith }

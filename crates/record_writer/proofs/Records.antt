@@ -10,7 +10,7 @@ use Rattle.model.specs.declared.Dialect.{Dialect}
 use Rattle.model.specs.declared.Dialect.TheVariants.{Csvj, Tdif, CsvPlus}
 use Rattle.model.specs.declared.Kind.{Kind}
 use Rattle.model.specs.declared.Kind.TheVariants.{Text}
-use Rattle.model.specs.declared.CheckResult.TheVariants.{Sound}
+use Rattle.std.specs.Prelude.{Ok}
 use Rattle.model.specs.rules.Base.{Bytes, COMMA, QUOTE}
 use Rattle.model.specs.rules.Dialect.{quote_of, delimiter_of, into}
 use Rattle.model.specs.rules.Report.{MAXRECORD}
@@ -99,7 +99,7 @@ module _ (d t : Dialect) (s : Bytes) (starts ends kinds : List ℕ) (cells : Cel
       ∙ ap (λ (p : ℕ). joined_from p quoted_cell s 0 starts ends) (comma_of t q)
 
   -- the target can represent all cells from place n on
-  all_carried : (k n : ℕ) → n + k ≡ length starts → uncarried_at (File d) t s starts ends kinds false n ≡ Sound
+  all_carried : (k n : ℕ) → n + k ≡ length starts → uncarried_at (File d) t s starts ends kinds false n ≡ Ok tt
   unfolding ◌or_else◌
   all_carried zero n e = uncarried_end (File d) t s starts ends kinds false cells.with_ends cells.with_kinds n (omega arith)
   all_carried (suc k) n e =
@@ -107,7 +107,7 @@ module _ (d t : Dialect) (s : Bytes) (starts ends kinds : List ℕ) (cells : Cel
       uncarried_next (File d) t s starts ends kinds false cells.with_ends cells.with_kinds n h
       ∙ rw (clean_carried (cell_at n h).content (cell_at n h).is_text_lem t (n + 1)) (all_carried k (n + 1) (omega arith))
 
-  pub record_carried : Sound ≡ uncarried_from t 1 (cells_in (File d) s starts ends kinds)
+  pub record_carried : (Ok tt) ≡ uncarried_from t 1 (cells_in (File d) s starts ends kinds)
   record_carried = sym (all_carried (length starts) 0 (omega arith))
 
 pub record_plus :

@@ -3,8 +3,8 @@ use Rattle.std.specs.Prelude.{ℕ, zero, suc, Bool, true, false, not, ◌&&◌, 
 use Rattle.model.specs.declared.Dialect.{Dialect}
 use Rattle.model.specs.declared.Fault.TheVariants.{LacksKind, LoneSurrogate}
 use Rattle.model.specs.declared.Kind.{Kind}
-use Rattle.model.specs.declared.CheckResult.{CheckResult}
-use Rattle.model.specs.declared.CheckResult.TheVariants.{Sound, Faulty}
+use Rattle.model.specs.rules.Types.{CheckResult}
+use Rattle.std.specs.Prelude.{Ok, Err}
 use Rattle.model.specs.rules.Base.{Bytes}
 use Rattle.model.specs.rules.Dialect.{is_csvj, delimiter_of}
 use Rattle.model.specs.rules.Text.{Value, is_text, cell_text}
@@ -33,6 +33,6 @@ uncarried_cell t n k content =
 
 -- the check result for the cells so far, from the column of the first that the target can't represent, or 0, and the reason
 abbrev pub check_of : (column : ℕ) → (lone : Bool) → CheckResult
-check_of zero lone = Sound
-check_of (suc n) true = Faulty (LoneSurrogate (suc n))
-check_of (suc n) false = Faulty (LacksKind (suc n))
+check_of zero lone = Ok tt
+check_of (suc n) true = Err (LoneSurrogate (suc n))
+check_of (suc n) false = Err (LacksKind (suc n))

@@ -17,7 +17,7 @@ use crate::clean::{plus, quoted};
 use crate::record;
 use crate::record::RecordText;
 use cell_decoder::source::Source;
-use model::{CheckResult, Dialect};
+use model::Dialect;
 
 // Whether a target quotes every text.
 fn quotes_all(t: Dialect) -> bool
@@ -57,7 +57,7 @@ pub fn write_text(
             let end = quoted::write_quoted(s, starts, ends, out, at, write);
             return RecordText {
                 end,
-                carries: CheckResult::Sound,
+                carries: Ok(()),
             };
         }
         if cell_lexer::quote_of(t) == 0x22 {
@@ -65,7 +65,7 @@ pub fn write_text(
             let end = plus::write_csv_plus(s, starts, ends, p, out, at, write);
             return RecordText {
                 end,
-                carries: CheckResult::Sound,
+                carries: Ok(()),
             };
         }
     }

@@ -19,14 +19,14 @@ use cell_decoder::source;
 use cell_decoder::source::Source;
 use cell_writer::body::Body;
 use cell_writer::escape;
-use model::{CheckResult, Dialect, Fault, Kind};
+use model::{Dialect, Fault, Kind};
 
 #[derive(Clone, Copy)]
 pub struct RecordText {
     // Where the text ends, without the record's ending.
     pub end: usize,
     // The check result for its cells: the first that the target can't represent.
-    pub carries: CheckResult,
+    pub carries: Result<(), Fault>,
 }
 
 // ---- what the target can represent
@@ -90,17 +90,17 @@ fn with_cell(said: FirstFault, t: Dialect, number: u8, lone: bool, column: usize
     said
 }
 
-fn check_result(said: FirstFault) -> CheckResult
+fn check_result(said: FirstFault) -> Result<(), Fault>
     ensures { result ≡ check_of said.column said.lone }
 {
     let column = said.column;
     if column == 0 {
-        return CheckResult::Sound;
+        return Ok(());
     }
     if said.lone {
-        return CheckResult::Faulty(Fault::LoneSurrogate { column });
+        return Err(Fault::LoneSurrogate { column });
     }
-    CheckResult::Faulty(Fault::LacksKind { column })
+    Err(Fault::LacksKind { column })
 }
 
 // ---- columns

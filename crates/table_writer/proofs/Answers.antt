@@ -3,7 +3,7 @@ use Prim.Native.Nat.{ℕ, ◌<◌, ◌≤◌}
 use native.Mathlib.Omega.{arith}
 use mathlib.Core.Path.{◌≡◌, refl, sym, ap, ◌∙◌}
 use mathlib.Core.Bool.{false}
-use mathlib.Core.Option.{Option, none, some}
+use Rattle.std.specs.Prelude.{Option, None, Some}
 use mathlib.Core.List.{List}
 use lib.ListN.{length}
 use borrow.Author.Tests.{lt-ltb, le-ltb}
@@ -57,16 +57,16 @@ long_enough room text h = rw (le-ltb room (length text) h)
 
 -- the records have no fault, and the length of their text is known
 record NoFault (t : Target) (rs : List (List Value)) (k : ℕ) (o : Option Report) : Type 0 where
-  pub faultless : o ≡ none
+  pub faultless : o ≡ None
   pub size : k ≡ length (table_text t rs)
 
 accepted_by : (t : Target) (rs : List (List Value)) (k : ℕ) (o : Option Report) → sum_by t rs o ≡ Accepted k → NoFault t rs k o
-accepted_by t rs k none e = record { faultless = refl; size = cc }
-accepted_by t rs k (some x) e = let z : ◌≡◌ {A = ℕ} 0 1 = cc in absurd (omega arith)
+accepted_by t rs k None e = record { faultless = refl; size = cc }
+accepted_by t rs k (Some x) e = let z : ◌≡◌ {A = ℕ} 0 1 = cc in absurd (omega arith)
 
-refused_by : (t : Target) (rs : List (List Value)) (x : Report) (o : Option Report) → sum_by t rs o ≡ Refused x → o ≡ some x
-refused_by t rs x none e = let z : ◌≡◌ {A = ℕ} 0 1 = cc in absurd (omega arith)
-refused_by t rs x (some y) e = cc
+refused_by : (t : Target) (rs : List (List Value)) (x : Report) (o : Option Report) → sum_by t rs o ≡ Refused x → o ≡ Some x
+refused_by t rs x None e = let z : ◌≡◌ {A = ℕ} 0 1 = cc in absurd (omega arith)
+refused_by t rs x (Some y) e = cc
 
 module _ (t : Dialect) (rs : List (List Value)) where
   pub accepted_size : (k : ℕ) → measured_as (into t) rs ≡ Accepted k → k ≡ length (table_text (into t) rs)
@@ -80,24 +80,24 @@ module _ (t : Dialect) (rs : List (List Value)) where
 
 -- ---- the writer
 
-none_there : {A : Type 0} (o : Option A) → is_there o ≡ false → o ≡ none
-none_there none e = refl
-none_there (some x) e = impossible (sym e)
+none_there : {A : Type 0} (o : Option A) → is_there o ≡ false → o ≡ None
+none_there None e = refl
+none_there (Some x) e = impossible (sym e)
 
 pub no_table : (t : Dialect) (table : Table) (room : ℕ) → is_there (rows_in table) ≡ false → writer_in t table room ≡ unwritten (refusal 12)
 no_table t table room e = ap (written_in t room) (none_there (rows_in table) e)
 
-pub in_dialect : (n : ℕ) (t : Dialect) (table : Table) (room : ℕ) → dialect_of n ≡ some t → writer n table room ≡ writer_in t table room
+pub in_dialect : (n : ℕ) (t : Dialect) (table : Table) (room : ℕ) → dialect_of n ≡ Some t → writer n table room ≡ writer_in t table room
 unfolding writer
 in_dialect n t table room e = rw (writer, e) (go (rows_in table))
   where
     go :
         (o : Option (List (List Value))) →
-        (elim o as (λ _. Written) [ none ↦ unwritten (refusal 12) | some rs ↦ written_rows (into t) room rs (rows_fault (into t) rs) ])
+        (elim o as (λ _. Written) [ None ↦ unwritten (refusal 12) | Some rs ↦ written_rows (into t) room rs (rows_fault (into t) rs) ])
         ≡ written_in t room o
-    go none = refl
-    go (some rs) = refl
+    go None = refl
+    go (Some rs) = refl
 
-pub no_dialect : (n : ℕ) (table : Table) (room : ℕ) → dialect_of n ≡ none → writer n table room ≡ unwritten (refusal 11)
+pub no_dialect : (n : ℕ) (table : Table) (room : ℕ) → dialect_of n ≡ None → writer n table room ≡ unwritten (refusal 11)
 unfolding writer
 no_dialect n table room e = rw (writer, e)

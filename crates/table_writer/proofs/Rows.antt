@@ -5,7 +5,7 @@ use native.Mathlib.Nat.{mul-suc}
 use native.Mathlib.Numerals.{add-one}
 use mathlib.Core.Path.{◌≡◌, refl, sym, ap, ◌∙◌}
 use mathlib.Core.Bool.{Bool, true, false}
-use mathlib.Core.Option.{Option, none, some}
+use Rattle.std.specs.Prelude.{Option, None, Some}
 use mathlib.Core.List.{List, [], ◌∷◌, ◌++◌, append_assoc, append-nil}
 use lib.Dec.{eqb}
 use lib.ListN.{length, take, drop, length-append}
@@ -15,8 +15,8 @@ use Rattle.model.specs.declared.Dialect.{Dialect}
 use Rattle.model.specs.declared.Fault.{Fault}
 use Rattle.model.specs.declared.Report.{Report}
 use Rattle.model.specs.declared.Target.{Target}
-use Rattle.model.specs.declared.CheckResult.{CheckResult}
-use Rattle.model.specs.declared.CheckResult.TheVariants.{Sound, Faulty}
+use Rattle.model.specs.rules.Types.{CheckResult}
+use Rattle.std.specs.Prelude.{Ok, Err}
 use Rattle.model.specs.rules.Base.{Bytes, choose◌then◌else◌, is_empty, over}
 use Rattle.model.specs.rules.Dialect.{into}
 use Rattle.model.specs.rules.Text.{Value, record_text, data_text, table_text, ending}
@@ -133,20 +133,20 @@ module _ {t : Dialect} {vs : List Value} {columns records n at size : ℕ} (m : 
         ∙ ap (λ (b : Bool). or_next (suc n) (row_check t b (length (table_text (into t) m.done)) r) next) (empty_count m.done n m.count)
         ∙ ap (λ (k : ℕ). or_next (suc n) (row_check t (eqb n 0) k r) next) (sym m.text)
 
-    pub measured_fault : (e : Fault) → row_check t (eqb n 0) size (row_at vs columns at) ≡ Faulty e
+    pub measured_fault : (e : Fault) → row_check t (eqb n 0) size (row_at vs columns at) ≡ Err e
         → measured_as (into t) (rows_of records columns vs) ≡ Refused (report (number_of e) (n + 1) (column_of e) 0)
     measured_fault e v =
-        let f : rows_fault (into t) (rows_of records columns vs) ≡ some (report (number_of e) (suc n) (column_of e) 0) = next_fault ∙ rw v in
+        let f : rows_fault (into t) (rows_of records columns vs) ≡ Some (report (number_of e) (suc n) (column_of e) 0) = next_fault ∙ rw v in
         ap (sum_by (into t) (rows_of records columns vs)) f ∙ ap (λ (k : ℕ). Refused (report (number_of e) k (column_of e) 0)) (sym (add-one n))
 
     row_fits :
-        row_check t (eqb n 0) size (row_at vs columns at) ≡ Sound →
+        row_check t (eqb n 0) size (row_at vs columns at) ≡ Ok tt →
         size + length (record_text (into t) (eqb n 0) (row_at vs columns at) ++ ending t) ≤ MAXFILE
     row_fits v =
         let r : List Value = row_at vs columns at in
         (target_sound (into t) (eqb n 0) size r (else_sound (header_if t (eqb n 0) r) (target_fault (into t) (eqb n 0) size r) v).1).fits
 
-    pub measured_next : (k : ℕ) → row_check t (eqb n 0) size (row_at vs columns at) ≡ Sound
+    pub measured_next : (k : ℕ) → row_check t (eqb n 0) size (row_at vs columns at) ≡ Ok tt
         → k ≡ length (record_text (into t) (eqb n 0) (row_at vs columns at) ++ ending t)
         → Measuring t vs columns records (n + 1) (at + columns) (size + k)
     measured_next k v l =
@@ -169,7 +169,7 @@ module _ {t : Dialect} {vs : List Value} {columns records n at size : ℕ} (m : 
   unfolding rows_from
   measured_all h =
       let e : rows_left vs columns records n at ≡ [] = rows_end vs columns records n at h in
-      let f : rows_fault (into t) (rows_of records columns vs) ≡ none = m.faults ∙ ap (rows_from (into t) m.done) e in
+      let f : rows_fault (into t) (rows_of records columns vs) ≡ None = m.faults ∙ ap (rows_from (into t) m.done) e in
       let g : rows_of records columns vs ≡ m.done = m.all_rows ∙ ap (λ (l : List (List Value)). m.done ++ l) e ∙ append-nil m.done in
       ap (sum_by (into t) (rows_of records columns vs)) f ∙ ap (λ (l : List (List Value)). Accepted (length (table_text (into t) l))) g
       ∙ ap Accepted (sym m.text)
@@ -248,10 +248,10 @@ module _ {t : Dialect} {vs : List Value} {columns records : ℕ} {old room : Byt
 -- ---- one record
 
 module _ (t : Dialect) (header : Bool) (written : ℕ) (r : List Value) where
-  pub header_faulty : (e : Fault) → header_if t header r ≡ Faulty e → Faulty e ≡ row_check t header written r
+  pub header_faulty : (e : Fault) → header_if t header r ≡ Err e → Err e ≡ row_check t header written r
   unfolding ◌or_else◌
   header_faulty e h = rw h
 
-  pub header_sound : header_if t header r ≡ Sound → target_fault (into t) header written r ≡ row_check t header written r
+  pub header_sound : header_if t header r ≡ Ok tt → target_fault (into t) header written r ≡ row_check t header written r
   unfolding ◌or_else◌
   header_sound h = rw h

@@ -3,7 +3,7 @@ use Prim.Native.Nat.{ℕ, zero, suc, ◌+◌, ◌*◌, ◌<◌, ◌≤◌}
 use native.Mathlib.Omega.{arith}
 use mathlib.Core.Path.{◌≡◌, refl, sym, ap, ◌∙◌}
 use mathlib.Core.Bool.{Bool, true, false, ◌&&◌}
-use mathlib.Core.Option.{Option, none, some}
+use Rattle.std.specs.Prelude.{Option, None, Some}
 use mathlib.Core.List.{List, [], ◌∷◌}
 use lib.Dec.{leb, ltb, eqb}
 use lib.ListN.{length, drop, get_or, drop_of_length-le}
@@ -27,8 +27,8 @@ fits bs s e k = leb s e && leb e (length bs) && is_value k (slice bs s e)
 
 -- the cell by its kind, if it has one
 abbrev cell_of : (bs : Bytes) (s e : ℕ) → Option Kind → Option Value
-cell_of bs s e none = none
-cell_of bs s e (some k) = choose fits bs s e k then some (record { from = s; upto = e; kind = k; content = slice bs s e }) else none
+cell_of bs s e None = None
+cell_of bs s e (Some k) = choose fits bs s e k then Some (record { from = s; upto = e; kind = k; content = slice bs s e }) else None
 
 cell_by : (bs : Bytes) (s e n : ℕ) → table_cell bs s e n ≡ cell_of bs s e (kind_named n)
 unfolding table_cell
@@ -36,41 +36,41 @@ cell_by bs s e n = go (kind_named n)
   where
     go :
         (o : Option Kind) → (elim o as (λ _. Option Value) [
-          | none ↦ none
-          | some k ↦
-              choose leb s e && leb e (length bs) && is_value k (slice bs s e) then some
+          | None ↦ None
+          | Some k ↦
+              choose leb s e && leb e (length bs) && is_value k (slice bs s e) then Some
               (record { from = s; upto = e; kind = k; content = slice bs s e })
-              else none
+              else None
         ]) ≡ cell_of bs s e o
-    go none = refl
-    go (some k) = refl
+    go None = refl
+    go (Some k) = refl
 
-there_if : {A : Type 0} (t : Bool) (x : A) → is_there (choose t then some x else none) ≡ t
+there_if : {A : Type 0} (t : Bool) (x : A) → is_there (choose t then Some x else None) ≡ t
 unfolding choose◌then◌else◌
 there_if true x = refl
 there_if false x = refl
 
-then_some : {A : Type 0} (t : Bool) (x : A) → t ≡ true → ◌≡◌ {A = Option A} (choose t then some x else none) (some x)
+then_some : {A : Type 0} (t : Bool) (x : A) → t ≡ true → ◌≡◌ {A = Option A} (choose t then Some x else None) (Some x)
 unfolding choose◌then◌else◌
 then_some true x e = refl
 then_some false x e = impossible e
 
-pub cell_unknown : (bs : Bytes) (s e n : ℕ) → kind_named n ≡ none → is_there (table_cell bs s e n) ≡ false
+pub cell_unknown : (bs : Bytes) (s e n : ℕ) → kind_named n ≡ None → is_there (table_cell bs s e n) ≡ false
 cell_unknown bs s e n h = rw (cell_by bs s e n, h)
 
-pub cell_known : (bs : Bytes) (s e n : ℕ) (k : Kind) → kind_named n ≡ some k → s ≤ e → e ≤ length bs → is_there (table_cell bs s e n) ≡ is_value k (slice bs s e)
+pub cell_known : (bs : Bytes) (s e n : ℕ) (k : Kind) → kind_named n ≡ Some k → s ≤ e → e ≤ length bs → is_there (table_cell bs s e n) ≡ is_value k (slice bs s e)
 cell_known bs s e n k h l u = rw (cell_by bs s e n, h, there_if, le-leb s e l, le-leb e (length bs) u)
 
 not_forward : (bs : Bytes) (s e : ℕ) (o : Option Kind) → e < s → is_there (cell_of bs s e o) ≡ false
-not_forward bs s e none l = refl
-not_forward bs s e (some k) l = rw (there_if, lt-leb s e l)
+not_forward bs s e None l = refl
+not_forward bs s e (Some k) l = rw (there_if, lt-leb s e l)
 
 pub cell_backward : (bs : Bytes) (s e n : ℕ) → e < s → is_there (table_cell bs s e n) ≡ false
 cell_backward bs s e n l = rw (cell_by bs s e n) (not_forward bs s e (kind_named n) l)
 
 not_inside : (bs : Bytes) (s e : ℕ) (o : Option Kind) → s ≤ e → length bs < e → is_there (cell_of bs s e o) ≡ false
-not_inside bs s e none h l = refl
-not_inside bs s e (some k) h l = rw (there_if, le-leb s e h, lt-leb e (length bs) l)
+not_inside bs s e None h l = refl
+not_inside bs s e (Some k) h l = rw (there_if, le-leb s e h, lt-leb e (length bs) l)
 
 pub cell_beyond : (bs : Bytes) (s e n : ℕ) → s ≤ e → length bs < e → is_there (table_cell bs s e n) ≡ false
 cell_beyond bs s e n h l = rw (cell_by bs s e n) (not_inside bs s e (kind_named n) h l)
@@ -79,17 +79,17 @@ cell_beyond bs s e n h l = rw (cell_by bs s e n) (not_inside bs s e (kind_named 
 record There (bs : Bytes) (s e : ℕ) (o : Option Kind) : Type 0 where
   forward : s ≤ e
   within : e ≤ length bs
-  same : cell_of bs s e o ≡ some (record { from = s; upto = e; kind = or_null o; content = slice bs s e })
+  same : cell_of bs s e o ≡ Some (record { from = s; upto = e; kind = or_null o; content = slice bs s e })
 
 there : (bs : Bytes) (s e : ℕ) (o : Option Kind) → is_there (cell_of bs s e o) ≡ true → There bs s e o
-there bs s e none h = impossible h
-there bs s e (some k) h =
+there bs s e None h = impossible h
+there bs s e (Some k) h =
     let t : fits bs s e k ≡ true = sym (there_if (fits bs s e k) _) ∙ h in
     let a = and_true (leb s e && leb e (length bs)) (is_value k (slice bs s e)) t in
     let b = and_true (leb s e) (leb e (length bs)) a.0 in
     record { forward = leb-true s e b.0; within = leb-true e (length bs) b.1; same = then_some (fits bs s e k) _ t }
 
-cell_there : (bs : Bytes) (s e n : ℕ) → is_there (table_cell bs s e n) ≡ true → table_cell bs s e n ≡ some (cell_in Contents bs s e n)
+cell_there : (bs : Bytes) (s e n : ℕ) → is_there (table_cell bs s e n) ≡ true → table_cell bs s e n ≡ Some (cell_in Contents bs s e n)
 cell_there bs s e n h = cell_by bs s e n ∙ (there bs s e (kind_named n) (rw (cell_by bs s e n) at h)).same
 
 cell_span : (bs : Bytes) (s e n : ℕ) → is_there (table_cell bs s e n) ≡ true → CellSpan Contents bs s e n
@@ -100,9 +100,9 @@ cell_span bs s e n h =
 -- ---- the cells
 
 cons_there : (x : Option Value) (xs : Option (List Value)) → is_there (cons x xs) ≡ (is_there x && is_there xs)
-cons_there none xs = refl
-cons_there (some v) none = refl
-cons_there (some v) (some vs) = refl
+cons_there None xs = refl
+cons_there (Some v) None = refl
+cons_there (Some v) (Some vs) = refl
 
 -- the cells of lists from place n on
 abbrev pub cells_from : (bs : Bytes) (ss es ks : List ℕ) (n : ℕ) → Option (List Value)
@@ -136,7 +136,7 @@ cells_end bs ss es ks n p q l =
 -- valid cells
 pub record AllThere (bs : Bytes) (ss es ks : List ℕ) : Type 0 where
   pub cells : Cells Contents bs ss es ks
-  pub same : table_cells bs ss es ks ≡ some (cells_in Contents bs ss es ks)
+  pub same : table_cells bs ss es ks ≡ Some (cells_in Contents bs ss es ks)
 
 more_cells :
     {bs : Bytes} {s e k : ℕ} {ss es ks : List ℕ} → CellSpan Contents bs s e k → Cells Contents bs ss es ks →
@@ -175,8 +175,8 @@ and_yes false = refl
 module _ (bs : Bytes) (ss es ks : List ℕ) (columns records : ℕ) where
   -- with an invalid cell there is no table
   no_rows : (o : Option (List Value)) → is_there o ≡ false → is_there (table_rows columns records o) ≡ false
-  no_rows none h = refl
-  no_rows (some vs) h = impossible (sym h)
+  no_rows None h = refl
+  no_rows (Some vs) h = impossible (sym h)
 
   missing : is_there (table_cells bs ss es ks) ≡ false → is_there (rows_in (given bs ss es ks columns records)) ≡ false
   unfolding rows_in
@@ -186,8 +186,8 @@ module _ (bs : Bytes) (ss es ks : List ℕ) (columns records : ℕ) where
   by_number :
       AllThere bs ss es ks →
       rows_in (given bs ss es ks columns records)
-      ≡ (choose eqb (length ss) (columns * records) && ltb 0 records then some (rows_of records columns (cells_in Contents bs ss es ks))
-      else none)
+      ≡ (choose eqb (length ss) (columns * records) && ltb 0 records then Some (rows_of records columns (cells_in Contents bs ss es ks))
+      else None)
   unfolding rows_in
   by_number a = rw (a.same, cells_length Contents bs ss es ks a.cells.with_ends a.cells.with_kinds)
 
@@ -228,7 +228,7 @@ module _ (bs : Bytes) (ss es ks : List ℕ) (columns records : ℕ) where
   -- what a table is
   pub record Tabled : Type 0 where
     pub cells : Cells Contents bs ss es ks
-    pub rows : rows_in (given bs ss es ks columns records) ≡ some (rows_of records columns (cells_in Contents bs ss es ks))
+    pub rows : rows_in (given bs ss es ks columns records) ≡ Some (rows_of records columns (cells_in Contents bs ss es ks))
     pub count : length ss ≡ columns * records
     pub header : 0 < records
 

@@ -1,6 +1,6 @@
 -- The answer of the writer for a known dialect and known records.
 use Rattle.std.specs.Prelude.{ℕ, List}
-use Rattle.std.proofs.Math.Option.{Option, none, some}
+use Rattle.std.specs.Prelude.{Option, None, Some}
 use Rattle.model.specs.declared.Dialect.{Dialect}
 use Rattle.model.specs.rules.Dialect.{into}
 use Rattle.model.specs.rules.Text.{Value}
@@ -13,8 +13,8 @@ table_written t rs room = written_rows (into t) room rs (rows_fault (into t) rs)
 
 -- the answer for records, if what is given is a table (§13.2)
 abbrev pub written_in : Dialect → (room : ℕ) → Option (List (List Value)) → Written
-written_in t room none = unwritten (refusal 12)
-written_in t room (some rs) = table_written t rs room
+written_in t room None = unwritten (refusal 12)
+written_in t room (Some rs) = table_written t rs room
 
 -- the writer in a dialect that is known
 abbrev pub writer_in : Dialect → Table → (room : ℕ) → Written

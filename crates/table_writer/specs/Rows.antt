@@ -1,11 +1,11 @@
 -- The check result and the measured length for the records of a table.
 use Rattle.std.specs.Prelude.{ℕ, Bool, true, false, List, length}
-use Rattle.std.proofs.Math.Option.{Option, none, some}
+use Rattle.std.specs.Prelude.{Option, None, Some}
 use Rattle.model.specs.declared.Dialect.{Dialect}
 use Rattle.model.specs.declared.Report.{Report}
 use Rattle.model.specs.declared.Target.{Target}
-use Rattle.model.specs.declared.CheckResult.{CheckResult}
-use Rattle.model.specs.declared.CheckResult.TheVariants.{Sound}
+use Rattle.model.specs.rules.Types.{CheckResult}
+use Rattle.std.specs.Prelude.{Ok}
 use Rattle.model.specs.rules.Base.{Bytes}
 use Rattle.model.specs.rules.Dialect.{into}
 use Rattle.model.specs.rules.Text.{Value, table_text}
@@ -23,7 +23,7 @@ rows_given content starts ends kinds columns records = rows_of records columns (
 -- the fault of a header, where the record is one (§13.12)
 abbrev pub header_if : Dialect → (header : Bool) → List Value → CheckResult
 header_if t true vs = header_fault t vs
-header_if t false vs = Sound
+header_if t false vs = Ok tt
 
 -- the fault of a record after `written` bytes of text: a header's own, and then the target's (§13.11 §13.12)
 abbrev pub row_check : Dialect → (header : Bool) → (written : ℕ) → List Value → CheckResult
@@ -31,8 +31,8 @@ row_check t header written vs = header_if t header vs or_else target_fault (into
 
 -- the first fault of these records if there is one, or the length of their text
 abbrev pub sum_by : Target → List (List Value) → Option Report → Measurement
-sum_by t rs none = sums.Accepted (length (table_text t rs))
-sum_by t rs (some e) = sums.Refused e
+sum_by t rs None = sums.Accepted (length (table_text t rs))
+sum_by t rs (Some e) = sums.Refused e
 
 abbrev pub measured_as : Target → List (List Value) → Measurement
 measured_as t rs = sum_by t rs (rows_fault t rs)

@@ -1,6 +1,6 @@
 -- A table from the lists that the writer is given, and whether an option holds a value.
 use Rattle.std.specs.Prelude.{ℕ, Bool, true, false, List}
-use Rattle.std.proofs.Math.Option.{Option, none, some}
+use Rattle.std.specs.Prelude.{Option, None, Some}
 use Rattle.model.specs.rules.Base.{Bytes}
 use Rattle.model.specs.rules.Api.{Table}
 
@@ -10,5 +10,5 @@ given content starts ends kinds columns records =
     record { content = content; starts = starts; ends = ends; kinds = kinds; columns = columns; records = records }
 
 abbrev pub is_there : {A : Type 0} → Option A → Bool
-is_there none = false
-is_there (some x) = true
+is_there None = false
+is_there (Some x) = true

@@ -4,7 +4,7 @@
 // The definition is `rows_in` of model's specs/rules/Api.antt. Where it has records, they are the cells of the lists (cell_decoder's
 // specs/Sources.antt), record by record: proofs/Tables.antt.
 ghost use Rattle.std.specs.Prelude.{◌≡◌, ◌*◌, eqb, length};
-ghost use Rattle.model.specs.declared.CellCheck.TheVariants.{WholeCell};
+ghost use Rattle.std.specs.Prelude.{Ok};
 ghost use Rattle.model.specs.declared.Dialect.TheVariants.{Csvj};
 ghost use Rattle.model.specs.rules.Base.{is_empty};
 ghost use Rattle.model.specs.rules.Decode.{kind_of, validate_cell};
@@ -12,13 +12,13 @@ ghost use Rattle.model.specs.rules.Api.{is_number, is_value, table_cell, table_c
 ghost use Rattle.table_writer.specs.TableParts.{given, is_there};
 
 use cell_decoder::validate;
-use codes::{NamedKind, cell};
-use model::{CellCheck, Dialect, Kind};
+use codes::cell;
+use model::{CellFault, Dialect, Kind};
 
 // ---- cells
 
 fn is_number_kind(k: Kind) -> bool
-    ensures { result ≡ is_number k WholeCell }
+    ensures { result ≡ is_number k (Ok tt) }
 {
     match k {
         Kind::Text => false,
@@ -37,11 +37,11 @@ fn is_number(s: &[u8]) -> bool
         return false;
     }
     match validate::validate_cell(Dialect::Csvj, s) {
-        CellCheck::WholeCell => true,
-        CellCheck::Unsound {
+        Ok(()) => true,
+        Err(CellFault {
             fault: _,
             offset: _,
-        } => false,
+        }) => false,
     }
 }
 
@@ -68,7 +68,7 @@ fn is_value(k: Kind, s: &[u8]) -> bool
 fn is_cell(content: &[u8], from: usize, upto: usize, kind: u8) -> bool
     ensures { result ≡ is_there (table_cell content.now from upto kind) }
 {
-    let NamedKind::Known(k) = codes::kind_named(kind) else {
+    let Ok(k) = Kind::try_from(kind) else {
         return false;
     };
     if upto < from {

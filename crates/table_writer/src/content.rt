@@ -1,11 +1,11 @@
 // Whether bytes are content: UTF-8, widened by lone surrogates (§2.6 §2.9). An automaton over the step of UTF-8, a byte at a time, with
 // runs of ASCII passed over at once. The definition is `Content` of specs/Content.antt; the laws of a step are in proofs/Contents.antt.
 ghost use Rattle.std.specs.Prelude.{◌≡◌, false, [], ◌≤◌, length};
-ghost use Rattle.std.proofs.Math.Option.{some};
+ghost use Rattle.std.specs.Prelude.{Some};
 ghost use Rattle.model.specs.rules.Utf8.{gap, ed, lone, inner, settle, wide_step, is_content};
 ghost use Rattle.table_writer.specs.Content.{wide_in, step_in, content_from, SameContentState};
 
-use model::{Advance, Char, Inner};
+use model::{Char, Inner};
 
 // The state. `high`: directly after a high surrogate, or in one.
 #[derive(Clone, Copy)]
@@ -18,15 +18,15 @@ pub enum ContentState {
 }
 
 // After a byte of a text.
-fn after_advance(a: Advance) -> ContentState
+fn after_advance(a: Option<Char>) -> ContentState
     ensures { wide_in result ≡ settle a }
 {
     match a {
-        Advance::On(c) => match c {
+        Some(c) => match c {
             Char::Whole => ContentState::Gap { high: false },
             Char::Within(i) => ContentState::InCharacter(i),
         },
-        Advance::Broken => ContentState::NoContent,
+        None => ContentState::NoContent,
     }
 }
 
@@ -109,7 +109,7 @@ fn may_end(p: ContentState) -> bool
 // The end of the run of ASCII from `at`, between characters.
 fn ascii_end(s: &[u8], at: usize) -> usize
     requires { at ≤ length s.now }
-    ensures { SameContentState (some (gap false)) s.now at result }
+    ensures { SameContentState (Some (gap false)) s.now at result }
 {
     let mut i = at;
     while i < s.len() {

@@ -17,7 +17,7 @@ ghost use Rattle.table_writer.specs.TableParts.{given};
 ghost use Rattle.table_writer.specs.Rows.{rows_given};
 ghost use Rattle.table_writer.specs.Answered.{table_written, writer_in};
 
-use codes::{NamedDialect, TextAnswer};
+use codes::{TextAnswer};
 use model::Dialect;
 use record_target::Measurement;
 
@@ -127,10 +127,10 @@ pub fn write(
         (given content.now starts.now ends.now kinds.now columns records)
         room.old }
 {
-    match codes::dialect_of(dialect) {
-        NamedDialect::Known(t) => {
+    match Dialect::try_from(dialect) {
+        Ok(t) => {
             write_in(t, content, starts, ends, kinds, columns, records, room)
         }
-        NamedDialect::Unknown => { codes::refusal(codes::call_report(codes::WRONG_CALL)) }
+        Err(_) => { codes::refusal(codes::call_report(codes::WRONG_CALL)) }
     }
 }

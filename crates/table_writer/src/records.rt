@@ -2,7 +2,7 @@
 // or the first fault, then the text in the room. The definitions are `rows_fault` and `table_text` of model's specs/rules. A rule that
 // changes for a record changes a law of proofs/Rows.antt, and no loop.
 ghost use Rattle.std.specs.Prelude.{◌≡◌, true, ◌++◌, ◌*◌, ◌≤◌, length};
-ghost use Rattle.model.specs.declared.CheckResult.TheVariants.{Sound};
+ghost use Rattle.std.specs.Prelude.{Ok};
 ghost use Rattle.model.specs.rules.Base.{over};
 ghost use Rattle.model.specs.rules.Dialect.{into};
 ghost use Rattle.model.specs.rules.Text.{record_text, table_text, ending};
@@ -13,7 +13,7 @@ ghost use Rattle.cell_decoder.specs.Sources.{cells_in, Cells};
 ghost use Rattle.table_writer.specs.Rows.{rows_given, header_if, row_check, measured_as};
 
 use cell_decoder::source::Source;
-use model::{CheckResult, Dialect};
+use model::{Dialect, Fault};
 use record_target::{Measurement, TargetCheck};
 use record_writer::line;
 
@@ -27,13 +27,13 @@ fn header_fault(
     ends: &[usize],
     kinds: &[u8],
     header: bool,
-) -> CheckResult
+) -> Result<(), Fault>
     requires { Cells Contents content.now starts.now ends.now kinds.now }
     ensures { result ≡ header_if t header
         (cells_in Contents content.now starts.now ends.now kinds.now) }
 {
     if !header {
-        return CheckResult::Sound;
+        return Ok(());
     }
     record_check::header(Source::Contents, t, content, starts, ends, kinds)
 }
@@ -52,12 +52,12 @@ fn check_record(
     requires written_bound { written ≤ MAXFILE }
     ensures verdict_value { result.verdict ≡ row_check t header written
         (cells_in Contents content.now starts.now ends.now kinds.now) }
-    ensures length_value { result.verdict ≡ Sound → result.length ≡ length (record_text (into t) header
+    ensures length_value { result.verdict ≡ Ok tt → result.length ≡ length (record_text (into t) header
         (cells_in Contents content.now starts.now ends.now kinds.now) ++ ending t) }
 {
-    if let CheckResult::Faulty(e) = header_fault(t, content, starts, ends, kinds, header) {
+    if let Err(e) = header_fault(t, content, starts, ends, kinds, header) {
         return TargetCheck {
-            verdict: CheckResult::Faulty(e),
+            verdict: Err(e),
             length: 0,
         };
     }
@@ -105,7 +105,7 @@ pub fn measure(
         );
         n += 1;
         let v = r.verdict;
-        if let CheckResult::Faulty(e) = v {
+        if let Err(e) = v {
             return Measurement::Refused(codes::record_report(e, n, 0));
         }
         size += r.length;

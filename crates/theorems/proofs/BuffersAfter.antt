@@ -4,7 +4,7 @@ use native.Mathlib.Omega.{arith}
 use mathlib.Core.Path.{◌≡◌, refl, sym, ap, ◌∙◌}
 use mathlib.Core.Logic.{◌≢◌}
 use mathlib.Core.Bool.{Bool, true, false}
-use mathlib.Core.Option.{Option, none, some}
+use Rattle.std.specs.Prelude.{Option, None, Some}
 use mathlib.Core.List.{List, [], ◌∷◌, ◌++◌, map}
 use lib.Dec.{leb, ltb}
 use lib.ListN.{length, drop, length-append, length-drop, length-map}
@@ -13,19 +13,21 @@ use borrow.Author.Tests.{ltb-false, leb-true, leb-false}
 use Rattle.model.specs.declared.Report.{Report}
 use Rattle.model.specs.declared.Dialect.{Dialect}
 use Rattle.model.specs.declared.Target.{Target}
-use Rattle.model.specs.declared.CellCheck.{CellCheck}
-use Rattle.model.specs.declared.CellCheck.TheVariants.{WholeCell, Unsound}
+use Rattle.model.specs.rules.Types.{CellCheck}
+use Rattle.std.specs.Prelude.{Ok, Err}
 use Rattle.model.specs.rules.Base.{Bytes, choose◌then◌else◌, over, concat}
 use Rattle.model.specs.rules.Dialect.{dialect_of, into}
 use Rattle.model.specs.rules.Decode.{kind_number, content_of, validate_cell}
 use Rattle.model.specs.rules.Text.{Value, table_text}
 use Rattle.model.specs.rules.Report.{accepted, refusal}
 use Rattle.model.specs.rules.Records.{Rec, rows, Progress, going, stopped, read_file}
-use Rattle.model.specs.rules.Api.{Answer, answered, read_answer, reader, least, starts_of, ends_of, kinds_of, ReadCall, read_call, Decoded, decoded_as}
+use Rattle.std.specs.Prelude.{min}
+use Rattle.model.specs.rules.Api.{Answer, answered, read_answer, reader, starts_of, ends_of, kinds_of, ReadCall, read_call, Decoded, decoded_as}
 use Rattle.model.specs.rules.Api.{decoder, decoder_leaves, Written, fitted, converted_as, converter, converter_leaves, Table, rows_in, rows_fault}
 use Rattle.model.specs.rules.Api.{written_rows, writer, writer_leaves}
 use Rattle.model.proofs.Tests.{split}
 use Rattle.theorems.specs.Demands.{Leaves}
+use Rattle.model.specs.rules.Types.{cell_fault}
 
 -- what is written fits, and on refusal there is nothing
 pub record Fits {A : Type 0} (told : Report) (new : List A) (room : ℕ) : Type 0 where
@@ -65,17 +67,17 @@ reader_fits n file room = by_dialect (dialect_of n)
     by_dialect : (o : Option Dialect) →
         let a : Answer
         = elim o as (λ _. Answer) [
-          | none ↦ record { report = refusal 11; columns = 0; records = 0; cells = [] }
-          | some d ↦ read_answer (read_file d none file) room
+          | None ↦ record { report = refusal 11; columns = 0; records = 0; cells = [] }
+          | Some d ↦ read_answer (read_file d None file) room
         ] in
         Fits a.report a.cells room
-    by_dialect none = nothing_fits (refusal 11) room
-    by_dialect (some d) = by_end (read_file d none file)
+    by_dialect None = nothing_fits (refusal 11) room
+    by_dialect (Some d) = by_end (read_file d None file)
 
-pub least_first : (a b : ℕ) → least a b ≤ a
+pub least_first : (a b : ℕ) → min a b ≤ a
 least_first a b = split (λ (n : ℕ). n ≤ a) (leb a b) (λ _. omega arith) λ e. omega (arith, leb-false a b e)
 
-pub least_second : (a b : ℕ) → least a b ≤ b
+pub least_second : (a b : ℕ) → min a b ≤ b
 least_second a b = split (λ (n : ℕ). n ≤ b) (leb a b) (λ e. leb-true a b e) λ _. omega arith
 
 -- a list of numbers, one for each cell
@@ -93,8 +95,8 @@ pub reader_leaves :
     × Leaves c.report c.cells kinds c.kinds
 unfolding read_call
 reader_leaves n file starts ends kinds c e =
-    let both : ℕ = least (length ends) (length kinds) in
-    let room : ℕ = least (length starts) both in
+    let both : ℕ = min (length ends) (length kinds) in
+    let room : ℕ = min (length starts) both in
     let a : Answer = reader n file room in
     let f : Fits a.report a.cells room = reader_fits n file room in
     let x : room ≤ length starts = least_first (length starts) both in
@@ -116,8 +118,8 @@ unfolding decoder decoder_leaves
 decoder_leaves_lem n raw room = leaves_over _ room (by_dialect (dialect_of n))
   where
     by_check : (d : Dialect) (c : CellCheck) → Fits (decoded_as d raw (length room) c).report (decoded_as d raw (length room) c).content (length room)
-    by_check d (Unsound e o) = nothing_fits _ (length room)
-    by_check d WholeCell =
+    by_check d (Err (cell_fault e o)) = nothing_fits _ (length room)
+    by_check d (Ok _) =
         split (λ (a : Decoded). Fits a.report a.content (length room)) (ltb (length room) (length (content_of d raw)))
         (λ _. nothing_fits (refusal 10) (length room))
         λ e. all_fits (content_of d raw) (length room) (ltb-false (length room) (length (content_of d raw)) e)
@@ -125,12 +127,12 @@ decoder_leaves_lem n raw room = leaves_over _ room (by_dialect (dialect_of n))
     by_dialect : (o : Option Dialect) →
         let a : Decoded
         = elim o as (λ _. Decoded) [
-          | none ↦ record { report = refusal 11; kind = 0; content = [] }
-          | some d ↦ decoded_as d raw (length room) (validate_cell d raw)
+          | None ↦ record { report = refusal 11; kind = 0; content = [] }
+          | Some d ↦ decoded_as d raw (length room) (validate_cell d raw)
         ] in
         Fits a.report a.content (length room)
-    by_dialect none = nothing_fits (refusal 11) (length room)
-    by_dialect (some d) = by_check d (validate_cell d raw)
+    by_dialect None = nothing_fits (refusal 11) (length room)
+    by_dialect (Some d) = by_check d (validate_cell d raw)
 
 -- ---- the converter and the writer
 
@@ -150,20 +152,20 @@ converter_fits m n file room = by_source (dialect_of m)
     by_target : (d : Dialect) (o : Option Dialect) →
         let w : Written
         = elim o as (λ _. Written)
-        [ none ↦ record { report = refusal 11; text = [] } | some t ↦ converted_as (into t) room (read_file d (some (into t)) file) ] in
+        [ None ↦ record { report = refusal 11; text = [] } | Some t ↦ converted_as (into t) room (read_file d (Some (into t)) file) ] in
         Fits w.report w.text room
-    by_target d none = nothing_fits (refusal 11) room
-    by_target d (some t) = by_end (into t) (read_file d (some (into t)) file)
+    by_target d None = nothing_fits (refusal 11) room
+    by_target d (Some t) = by_end (into t) (read_file d (Some (into t)) file)
 
     by_source : (o : Option Dialect) →
         let w : Written = elim o as (λ _. Written) [
-          | none ↦ record { report = refusal 11; text = [] }
-          | some d ↦ elim (dialect_of n) as (λ _. Written)
-              [ none ↦ record { report = refusal 11; text = [] } | some t ↦ converted_as (into t) room (read_file d (some (into t)) file) ]
+          | None ↦ record { report = refusal 11; text = [] }
+          | Some d ↦ elim (dialect_of n) as (λ _. Written)
+              [ None ↦ record { report = refusal 11; text = [] } | Some t ↦ converted_as (into t) room (read_file d (Some (into t)) file) ]
         ] in
         Fits w.report w.text room
-    by_source none = nothing_fits (refusal 11) room
-    by_source (some d) = by_target d (dialect_of n)
+    by_source None = nothing_fits (refusal 11) room
+    by_source (Some d) = by_target d (dialect_of n)
 
 pub converter_leaves_lem :
     (m n : ℕ) (file : Bytes) (room : List ℕ) →
@@ -177,24 +179,24 @@ unfolding writer
 writer_fits n table room = by_dialect (dialect_of n)
   where
     by_fault : (t : Target) (rs : List (List Value)) (o : Option Report) → Fits (written_rows t room rs o).report (written_rows t room rs o).text room
-    by_fault t rs (some e) = nothing_fits e room
-    by_fault t rs none = fitted_fits room (table_text t rs)
+    by_fault t rs (Some e) = nothing_fits e room
+    by_fault t rs None = fitted_fits room (table_text t rs)
 
     by_rows : (t : Target) (o : Option (List (List Value))) →
-        let w : Written = elim o as (λ _. Written) [ none ↦ record { report = refusal 12; text = [] } | some rs ↦ written_rows t room rs (rows_fault t rs) ] in
+        let w : Written = elim o as (λ _. Written) [ None ↦ record { report = refusal 12; text = [] } | Some rs ↦ written_rows t room rs (rows_fault t rs) ] in
         Fits w.report w.text room
-    by_rows t none = nothing_fits (refusal 12) room
-    by_rows t (some rs) = by_fault t rs (rows_fault t rs)
+    by_rows t None = nothing_fits (refusal 12) room
+    by_rows t (Some rs) = by_fault t rs (rows_fault t rs)
 
     by_dialect : (o : Option Dialect) →
         let w : Written = elim o as (λ _. Written) [
-          | none ↦ record { report = refusal 11; text = [] }
-          | some t ↦ elim (rows_in table) as (λ _. Written)
-              [ none ↦ record { report = refusal 12; text = [] } | some rs ↦ written_rows (into t) room rs (rows_fault (into t) rs) ]
+          | None ↦ record { report = refusal 11; text = [] }
+          | Some t ↦ elim (rows_in table) as (λ _. Written)
+              [ None ↦ record { report = refusal 12; text = [] } | Some rs ↦ written_rows (into t) room rs (rows_fault (into t) rs) ]
         ] in
         Fits w.report w.text room
-    by_dialect none = nothing_fits (refusal 11) room
-    by_dialect (some t) = by_rows (into t) (rows_in table)
+    by_dialect None = nothing_fits (refusal 11) room
+    by_dialect (Some t) = by_rows (into t) (rows_in table)
 
 pub writer_leaves_lem :
     (n : ℕ) (table : Table) (room : List ℕ) →

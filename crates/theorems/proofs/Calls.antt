@@ -4,7 +4,7 @@ use Prim.Native.Nat.{ℕ, ◌+◌, ◌-◌, ◌≤◌}
 use native.Mathlib.Omega.{arith}
 use mathlib.Core.Path.{◌≡◌, refl, sym, ap, ap₂, ◌∙◌}
 use mathlib.Core.Bool.{true, false}
-use mathlib.Core.Option.{none, some}
+use Rattle.std.specs.Prelude.{None, Some}
 use mathlib.Core.List.{List, [], ◌∷◌, ◌++◌, map, map-append, zip_with}
 use lib.ListN.{length, take, drop, length-append, length-drop}
 use lib.Seq.{take-append_seam}
@@ -166,7 +166,7 @@ module _ (new_carries : (m n : ℕ) → Represents m n [] (new_converter m n)) w
         (λ cs x e a h. only_sizes m n (history m n cs) x.call (sym (ap (λ (u : TextAnswer). u.report.number) a.told) ∙ h)) led
 
     pub joined :
-        (d t : Dialect) (made : List MadeCall) (s : Converter) → dialect_of m ≡ some d → dialect_of n ≡ some t → LedTo m n made s →
+        (d t : Dialect) (made : List MadeCall) (s : Converter) → dialect_of m ≡ Some d → dialect_of n ≡ Some t → LedTo m n made s →
         joined_outputs made ≡ table_text (into t) (rows (records_of (seen_in d (into t) (entries_of m n made))))
     joined d t made s p q led = outputs made s led ∙ joined_outputs_lem m n d t (calls_of made) p q
 
@@ -185,7 +185,7 @@ module _ (new_carries : (m n : ℕ) → Represents m n [] (new_converter m n)) w
     -- the file fault that any of them reports is the one found first
     first_fault :
         {made : List MadeCall} {s : Converter} → LedTo m n made s →
-        All (λ (x : MadeCall). is_file_fault x.told.report ≡ true → fault_in (entries_of m n made) ≡ some x.told.report) made
+        All (λ (x : MadeCall). is_file_fault x.told.report ≡ true → fault_in (entries_of m n made) ≡ Some x.told.report) made
     first_fault fresh = all_none
     first_fault (one_more_lem {made} {s} {next} {x} led room c) =
         let past : List Entry = entries_of m n made in
@@ -205,8 +205,8 @@ module _ (new_carries : (m n : ℕ) → Represents m n [] (new_converter m n)) w
     fault_is_whole made s led = all_map (λ y k h. met_whole m n (calls_of made) y.told.report (k h)) (first_fault led)
 
     pub fault_of_every_file :
-        (d t : Dialect) (made : List MadeCall) (s next : Converter) (bs out out' : List ℕ) (told : TextAnswer) → dialect_of m ≡ some d →
-        dialect_of n ≡ some t → LedTo m n made s → fault_in (entries_of m n made) ≡ none → CallContract s (piece bs (length out)) out told next out' →
+        (d t : Dialect) (made : List MadeCall) (s next : Converter) (bs out out' : List ℕ) (told : TextAnswer) → dialect_of m ≡ Some d →
+        dialect_of n ≡ Some t → LedTo m n made s → fault_in (entries_of m n made) ≡ None → CallContract s (piece bs (length out)) out told next out' →
         is_file_fault told.report ≡ true → OfEveryFile m n d (into t) (consumed_by m n made ++ bs) told.report
     fault_of_every_file d t made s next bs out out' told p q led k x h =
         let e : told.report ≡ (answer_now m n (entries_of m n made) (piece bs (length out))).report
@@ -214,9 +214,9 @@ module _ (new_carries : (m n : ℕ) → Represents m n [] (new_converter m n)) w
         rw e (piece_fault m n d t p q (entries_of m n made) bs (length out) k (rw e at h))
 
     pub shown :
-        (d t : Dialect) (made : List MadeCall) (s : Converter) → dialect_of m ≡ some d → dialect_of n ≡ some t → LedTo m n made s →
+        (d t : Dialect) (made : List MadeCall) (s : Converter) → dialect_of m ≡ Some d → dialect_of n ≡ Some t → LedTo m n made s →
         StateShows d t (consumed_by m n made) s
     shown d t made s p q led = shown_after (stands led).carries d t p q
 
-    pub counted : (made : List MadeCall) (s : Converter) → LedTo m n made s → fault_in (entries_of m n made) ≡ none → s.offset ≡ length (consumed_by m n made)
+    pub counted : (made : List MadeCall) (s : Converter) → LedTo m n made s → fault_in (entries_of m n made) ≡ None → s.offset ≡ length (consumed_by m n made)
     counted made s led none-met = offset_after (stands led).carries none-met

@@ -6,7 +6,7 @@ use native.Mathlib.Omega.{arith}
 use mathlib.Core.Path.{◌≡◌, refl, ap}
 use mathlib.Core.Logic.{◌≢◌, ◌↔◌}
 use mathlib.Core.Bool.{Bool, true, false, not, ◌&&◌}
-use mathlib.Core.Option.{none, some}
+use Rattle.std.specs.Prelude.{None, Some}
 use mathlib.Core.List.{List, [], ◌∷◌, ◌++◌}
 use lib.Dec.{ltb}
 use lib.ListN.{length, length-append}
@@ -17,7 +17,7 @@ use Rattle.model.specs.declared.Kind.TheVariants.{Text}
 use Rattle.model.specs.declared.Fault.{Fault}
 use Rattle.model.specs.declared.Fault.TheVariants.{RepeatedName, HeaderKind, TooManyColumns, NoCells, LacksKind, LoneSurrogate, Clash, TextTooLong}
 use Rattle.model.specs.declared.Fault.TheVariants.{OutputTooLong}
-use Rattle.model.specs.declared.CheckResult.TheVariants.{Sound}
+use Rattle.std.specs.Prelude.{Ok}
 use Rattle.model.specs.rules.Base.{Bytes, is_empty, concat, choose◌then◌else◌}
 use Rattle.model.specs.rules.Dialect.{dialect_of, into, is_csvj}
 use Rattle.model.specs.rules.Text.{Value, is_text, record_text, data_text, table_text, ending}
@@ -101,7 +101,7 @@ module _ (t : Dialect) where
   cons_unseen y seen (all_cons {x} n k) (all_cons p m) = all_cons (cons_among (key_of x) y seen n p) (cons_unseen y seen k m)
 
   names_sound :
-      (fault : ℕ → Fault) (seen : List Bytes) (n : ℕ) {vs : List Value} → Unseen seen vs → DistinctNames t vs → repeat_from t fault seen n vs ≡ Sound
+      (fault : ℕ → Fault) (seen : List Bytes) (n : ℕ) {vs : List Value} → Unseen seen vs → DistinctNames t vs → repeat_from t fault seen n vs ≡ Ok tt
   unfolding repeat_from choose◌then◌else◌
   names_sound fault seen n all_none no_names = refl
   names_sound fault seen n (all_cons {x} {xs} p ps) (a_name w m) =
@@ -110,20 +110,20 @@ module _ (t : Dialect) where
 
   -- ---- a header and a record
 
-  texts_sound : (n : ℕ) {vs : List Value} → All TextCell vs → header_kind_from n vs ≡ Sound
+  texts_sound : (n : ℕ) {vs : List Value} → All TextCell vs → header_kind_from n vs ≡ Ok tt
   unfolding header_kind_from
   texts_sound n all_none = refl
   texts_sound n (all_cons {x} k ks) =
       let q : not (is_text x.kind) ≡ false = rw k in
       both_sound (not_when (HeaderKind n) q) (texts_sound (suc n) ks)
 
-  pub header_sound : (h : List Value) → length h ≤ MAXCOLUMNS → All TextCell h → DistinctNames t h → header_fault t h ≡ Sound
+  pub header_sound : (h : List Value) → length h ≤ MAXCOLUMNS → All TextCell h → DistinctNames t h → header_fault t h ≡ Ok tt
   unfolding header_fault repeat_fault
   header_sound h few texts names =
-      let columns : when (ltb MAXCOLUMNS (length h)) TooManyColumns ≡ Sound = not_when TooManyColumns (le-ltb MAXCOLUMNS (length h) few) in
+      let columns : when (ltb MAXCOLUMNS (length h)) TooManyColumns ≡ Ok tt = not_when TooManyColumns (le-ltb MAXCOLUMNS (length h) few) in
       both_sound columns (both_sound (texts_sound 1 texts) (names_sound RepeatedName [] 1 (unseen_none h) names))
 
-  kinds_sound : (n : ℕ) {vs : List Value} → All HasKind vs → All Lossless vs → uncarried_from t n vs ≡ Sound
+  kinds_sound : (n : ℕ) {vs : List Value} → All HasKind vs → All Lossless vs → uncarried_from t n vs ≡ Ok tt
   unfolding uncarried_from
   kinds_sound n all_none all_none = refl
   kinds_sound n (all_cons {x} k ks) (all_cons l ls) =
@@ -131,9 +131,9 @@ module _ (t : Dialect) where
       both_sound (not_when (LacksKind n) q) (both_sound (not_when (LoneSurrogate n) l) (kinds_sound (suc n) ks ls))
 
   record_sound :
-      (header : Bool) (written : ℕ) (vs : List Value) → (header && is_empty vs && not (is_csvj t)) ≡ false → uncarried_from t 1 vs ≡ Sound →
-      clash_fault t header vs ≡ Sound → length (record_text (into t) header vs) ≤ MAXRECORD → written + length (line_of header vs) ≤ MAXFILE →
-      target_fault (into t) header written vs ≡ Sound
+      (header : Bool) (written : ℕ) (vs : List Value) → (header && is_empty vs && not (is_csvj t)) ≡ false → uncarried_from t 1 vs ≡ Ok tt →
+      clash_fault t header vs ≡ Ok tt → length (record_text (into t) header vs) ≤ MAXRECORD → written + length (line_of header vs) ≤ MAXFILE →
+      target_fault (into t) header written vs ≡ Ok tt
   unfolding target_fault
   record_sound header written vs filled carries clash short fits =
       let size : ltb MAXRECORD (length (record_text (into t) header vs)) ≡ false = le-ltb MAXRECORD (length (record_text (into t) header vs)) short in
@@ -144,39 +144,39 @@ module _ (t : Dialect) where
 
   rows_sound :
       (h : List Value) (done rs : List (List Value)) → All (All HasKind) rs → All (All Lossless) rs → All Short rs →
-      table_size (h ∷ done) + data_size rs ≤ MAXFILE → rows_from (into t) (h ∷ done) rs ≡ none
+      table_size (h ∷ done) + data_size rs ≤ MAXFILE → rows_from (into t) (h ∷ done) rs ≡ None
   unfolding rows_from
   rows_sound h done [] all_none all_none all_none fits = refl
   rows_sound h done (r ∷ rs) (all_cons a u) (all_cons b v) (all_cons c w) fits =
       let left : data_size (r ∷ rs) ≡ length (line_of false r) + data_size rs = data_size_lem r rs in
       let next : table_size (h ∷ (done ++ (r ∷ []))) ≡ table_size (h ∷ done) + length (line_of false r) = row_size h done r in
-      let sound : target_fault (into t) false (table_size (h ∷ done)) r ≡ Sound =
+      let sound : target_fault (into t) false (table_size (h ∷ done)) r ≡ Ok tt =
       record_sound false (table_size (h ∷ done)) r refl (kinds_sound 1 a b) refl c (omega arith) in
       rw sound (rows_sound h (done ++ (r ∷ [])) rs u v w (omega arith))
 
-  pub no_fault : (h : List Value) (rs : List (List Value)) → CarriedTable t h rs → rows_fault (into t) (h ∷ rs) ≡ none
+  pub no_fault : (h : List Value) (rs : List (List Value)) → CarriedTable t h rs → rows_fault (into t) (h ∷ rs) ≡ None
   unfolding rows_fault rows_from repeat_fault
   no_fault h rs c = go c.kinds c.lossless
     where
       filled : (true && is_empty h && not (is_csvj t)) ≡ false
       filled = not-true (is_empty h && not (is_csvj t)) c.has_cells_lem
 
-      go : All (All HasKind) (h ∷ rs) → All (All Lossless) (h ∷ rs) → rows_fault (into t) (h ∷ rs) ≡ none
+      go : All (All HasKind) (h ∷ rs) → All (All Lossless) (h ∷ rs) → rows_fault (into t) (h ∷ rs) ≡ None
       go (all_cons a u) (all_cons b v) =
           let all : table_size (h ∷ rs) ≡ table_size (h ∷ []) + data_size rs = table_size_lem h rs in
           let first : table_size (h ∷ []) ≡ 0 + length (line_of true h) = header_size h in
           let none_yet : table_size [] ≡ 0 = no_size in
           let short : table_size (h ∷ rs) ≤ MAXFILE = c.short_file in
-          let header : header_fault t h ≡ Sound = header_sound h c.columns c.texts c.names in
-          let clash : clash_fault t true h ≡ Sound = names_sound Clash [] 1 (unseen_none h) c.names in
-          let target : target_next (into t) [] h ≡ Sound =
+          let header : header_fault t h ≡ Ok tt = header_sound h c.columns c.texts c.names in
+          let clash : clash_fault t true h ≡ Ok tt = names_sound Clash [] 1 (unseen_none h) c.names in
+          let target : target_next (into t) [] h ≡ Ok tt =
           record_sound true (table_size []) h filled (kinds_sound 1 a b) clash c.short_header (omega arith) in
-          let sound : row_fault (into t) [] h ≡ Sound = both_sound header target in
+          let sound : row_fault (into t) [] h ≡ Ok tt = both_sound header target in
           rw sound (rows_sound h [] rs u v c.short_records (omega arith))
 
   -- ---- a table without a fault is one that the dialect can represent
 
-  texts_of : (n : ℕ) (vs : List Value) → header_kind_from n vs ≡ Sound → All TextCell vs
+  texts_of : (n : ℕ) (vs : List Value) → header_kind_from n vs ≡ Ok tt → All TextCell vs
   unfolding header_kind_from
   texts_of n [] e = all_none
   texts_of n (v ∷ vs) e =
@@ -194,18 +194,18 @@ module _ (t : Dialect) where
   abbrev Fresh : List Bytes → List Value → Type 0
   Fresh seen vs = Unseen seen vs × DistinctNames t vs
 
-  pub names_of : (fault : ℕ → Fault) (seen : List Bytes) (n : ℕ) (vs : List Value) → repeat_from t fault seen n vs ≡ Sound → Fresh seen vs
+  pub names_of : (fault : ℕ → Fault) (seen : List Bytes) (n : ℕ) (vs : List Value) → repeat_from t fault seen n vs ≡ Ok tt → Fresh seen vs
   unfolding repeat_from choose◌then◌else◌
   names_of fault seen n [] e = (all_none, no_names)
   names_of fault seen n (v ∷ vs) e = go (among (key_of v) seen) refl (λ q. names_of fault (key_of v ∷ seen) (suc n) vs q)
     where
       go :
-          (b : Bool) → among (key_of v) seen ≡ b → (repeat_from t fault (key_of v ∷ seen) (suc n) vs ≡ Sound → Fresh (key_of v ∷ seen) vs) →
+          (b : Bool) → among (key_of v) seen ≡ b → (repeat_from t fault (key_of v ∷ seen) (suc n) vs ≡ Ok tt → Fresh (key_of v ∷ seen) vs) →
           Fresh seen (v ∷ vs)
       go true q ih = fault_sound (rw q at e)
       go false q ih = let m = ih (rw q at e) in let u = unseen_cons (key_of v) seen m.0 in (all_cons q u.1, a_name u.0 m.1)
 
-  kinds_of : (n : ℕ) (vs : List Value) → uncarried_from t n vs ≡ Sound → All HasKind vs × All Lossless vs
+  kinds_of : (n : ℕ) (vs : List Value) → uncarried_from t n vs ≡ Ok tt → All HasKind vs × All Lossless vs
   unfolding uncarried_from
   kinds_of n [] e = (all_none, all_none)
   kinds_of n (v ∷ vs) e =
@@ -221,7 +221,7 @@ module _ (t : Dialect) where
     fits : table_size (h ∷ done) + data_size rs ≤ MAXFILE
 
   rows_of :
-      (h : List Value) (done rs : List (List Value)) → table_size (h ∷ done) ≤ MAXFILE → rows_from (into t) (h ∷ done) rs ≡ none → RowsOf h done rs
+      (h : List Value) (done rs : List (List Value)) → table_size (h ∷ done) ≤ MAXFILE → rows_from (into t) (h ∷ done) rs ≡ None → RowsOf h done rs
   unfolding rows_from
   rows_of h done [] k e = record { kinds = all_none; lossless = all_none; short = all_none; fits = unfold data_text in omega arith }
   rows_of h done (r ∷ rs) k e =
@@ -235,7 +235,7 @@ module _ (t : Dialect) where
       let fits : table_size (h ∷ (done ++ (r ∷ []))) + data_size rs ≤ MAXFILE = m.fits in
       record { kinds = all_cons c.0 m.kinds; lossless = all_cons c.1 m.lossless; short = all_cons b.short m.short; fits = omega arith }
 
-  pub carried_of : (h : List Value) (rs : List (List Value)) → rows_fault (into t) (h ∷ rs) ≡ none → CarriedTable t h rs
+  pub carried_of : (h : List Value) (rs : List (List Value)) → rows_fault (into t) (h ∷ rs) ≡ None → CarriedTable t h rs
   unfolding rows_fault rows_from header_fault repeat_fault
   carried_of h rs e =
       let a = next_none 1 (row_fault (into t) [] h) (rows_from (into t) (h ∷ []) rs) e in
@@ -264,25 +264,25 @@ module _ (t : Dialect) where
 -- ---- the writer
 
 pub writes :
-    (n : ℕ) (t : Dialect) (table : Table) (h : List Value) (rs : List (List Value)) (room : ℕ) → dialect_of n ≡ some t → rows_in table ≡ some (h ∷ rs) →
+    (n : ℕ) (t : Dialect) (table : Table) (h : List Value) (rs : List (List Value)) (room : ℕ) → dialect_of n ≡ Some t → rows_in table ≡ Some (h ∷ rs) →
     CarriedTable t h rs → length (table_text (into t) (h ∷ rs)) ≤ room → writer n table room ≡ accepts (table_text (into t) (h ∷ rs))
 unfolding writer
 writes n t table h rs room e q c f =
-    let z : rows_fault (into t) (h ∷ rs) ≡ none = no_fault t h rs c in
+    let z : rows_fault (into t) (h ∷ rs) ≡ None = no_fault t h rs c in
     let text : Bytes = table_text (into t) (h ∷ rs) in
     rw (e, writer, q, z) (fitted_fits room text text (record { same = refl; fits = f }))
 
 -- the dialect can represent the table's rows, and the text has room
 abbrev WritesOut : Dialect → Table → (room : ℕ) → Type 0
 WritesOut t table room =
-    (h : List Value) × (rs : List (List Value)) × (rows_in table ≡ some (h ∷ rs)) × CarriedTable t h rs × (length (table_text (into t) (h ∷ rs)) ≤ room)
+    (h : List Value) × (rs : List (List Value)) × (rows_in table ≡ Some (h ∷ rs)) × CarriedTable t h rs × (length (table_text (into t) (h ∷ rs)) ≤ room)
 
 pub written_exactly :
-    (n : ℕ) (t : Dialect) (table : Table) (room : ℕ) → dialect_of n ≡ some t → ((writer n table room).report ≡ accepted) ↔ WritesOut t table room
+    (n : ℕ) (t : Dialect) (table : Table) (room : ℕ) → dialect_of n ≡ Some t → ((writer n table room).report ≡ accepted) ↔ WritesOut t table room
 written_exactly n t table room e = (only, enough)
   where
     by_rows :
-        (d : Dialect) (cells : List (List Value)) (bs : Bytes) → dialect_of n ≡ some d → rows_in table ≡ some cells → Writable d cells →
+        (d : Dialect) (cells : List (List Value)) (bs : Bytes) → dialect_of n ≡ Some d → rows_in table ≡ Some cells → Writable d cells →
         table_text (into d) cells ≡ bs → length bs ≤ room → WritesOut t table room
     by_rows d cells bs k q (writable {h} {rs} v w f) s l =
         let same_dialect : d ≡ t = cc in
@@ -301,7 +301,7 @@ written_exactly n t table room e = (only, enough)
     enough (h, rs, q, c, m) = ap (λ (w : Written). w.report) (writes n t table h rs room e q c m)
 
 pub carried_comes_back :
-    (n : ℕ) (t : Dialect) (table : Table) (h : List Value) (rs : List (List Value)) (room places : ℕ) → dialect_of n ≡ some t → rows_in table ≡ some (h ∷ rs) →
+    (n : ℕ) (t : Dialect) (table : Table) (h : List Value) (rs : List (List Value)) (room places : ℕ) → dialect_of n ≡ Some t → rows_in table ≡ Some (h ∷ rs) →
     CarriedTable t h rs → length (table_text (into t) (h ∷ rs)) ≤ room → length (concat (h ∷ rs)) ≤ places →
     (writer n table room ≡ record { report = accepted; text = table_text (into t) (h ∷ rs) })
     × ReadsBack n table (h ∷ rs) (table_text (into t) (h ∷ rs)) (reader n (table_text (into t) (h ∷ rs)) places)

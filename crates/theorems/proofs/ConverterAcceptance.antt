@@ -7,7 +7,7 @@ use native.Mathlib.Omega.{arith}
 use mathlib.Core.Path.{◌≡◌, refl, sym, ap, ◌∙◌}
 use mathlib.Core.Logic.{◌↔◌}
 use mathlib.Core.Bool.{true}
-use mathlib.Core.Option.{none, some}
+use Rattle.std.specs.Prelude.{None, Some}
 use mathlib.Core.List.{List, [], ◌∷◌, ◌++◌, map}
 use lib.ListN.{length}
 use Rattle.model.specs.declared.Report.{Report}
@@ -16,8 +16,8 @@ use Rattle.model.specs.declared.Kind.TheVariants.{Text}
 use Rattle.model.specs.declared.Fault.{Fault}
 use Rattle.model.specs.declared.Fault.TheVariants.{Clash}
 use Rattle.model.specs.declared.Target.{Target}
-use Rattle.model.specs.declared.CheckResult.{CheckResult}
-use Rattle.model.specs.declared.CheckResult.TheVariants.{Sound}
+use Rattle.model.specs.rules.Types.{CheckResult}
+use Rattle.std.specs.Prelude.{Ok}
 use Rattle.model.specs.rules.Base.{Bytes, choose◌then◌else◌}
 use Rattle.model.specs.rules.Dialect.{dialect_of, into}
 use Rattle.model.specs.rules.Text.{Value, table_text}
@@ -49,7 +49,7 @@ use Rattle.theorems.proofs.ReaderDerivation.{no_records}
 -- the file is read, its records pass the target's checks, and the text has room
 abbrev Converts : Dialect → Target → Bytes → (room : ℕ) → Type 0
 Converts d t file room =
-    (r : Read) × (read_file d none file ≡ going r) × Passes t [] r.done × (length (table_text t (rows r.done)) ≤ room)
+    (r : Read) × (read_file d None file ≡ going r) × Passes t [] r.done × (length (table_text t (rows r.done)) ≤ room)
 
 module _ (t : Target) where
   -- a record that the target refuses is none that it passes
@@ -87,35 +87,35 @@ module _ (t : Target) where
       not_both (rw (sym z ∙ sum) at k) f
 
 converts_exactly :
-    (m n : ℕ) (d t : Dialect) (file : Bytes) (room : ℕ) → dialect_of m ≡ some d → dialect_of n ≡ some t →
+    (m n : ℕ) (d t : Dialect) (file : Bytes) (room : ℕ) → dialect_of m ≡ Some d → dialect_of n ≡ Some t →
     ((converter m n file room).report ≡ accepted) ↔ Converts d (into t) file room
 converts_exactly m n d t file room e k = (only, enough)
   where
-    tells : ReportsFile (λ (rs : List Rec). length (table_text (into t) (rows rs))) room (read_file d (some (into t)) file) (converter m n file room).report
+    tells : ReportsFile (λ (rs : List Rec). length (table_text (into t) (rows rs))) room (read_file d (Some (into t)) file) (converter m n file room).report
     tells = converter_tells m n d t file room e k
 
     only : (converter m n file room).report ≡ accepted → Converts d (into t) file room
     only q =
-        let x = accepts_from (into t) (read_file d (some (into t)) file) (converter m n file room).report tells q in
+        let x = accepts_from (into t) (read_file d (Some (into t)) file) (converter m n file room).report tells q in
         let y = passes_from (into t) x.0 (target_file d (into t) file) x.1 in
         (x.0, y.0, y.1, x.2)
 
     enough : Converts d (into t) file room → (converter m n file room).report ≡ accepted
     enough (r, x, ps, h) =
-        accepts_to (into t) (read_file d (some (into t)) file) (converter m n file room).report r tells
+        accepts_to (into t) (read_file d (Some (into t)) file) (converter m n file room).report r tells
         (passes_to (into t) r (target_file d (into t) file) x ps) h
 
 -- ---- the target's checks, and the writer's
 
 module _ (t : Target) where
-  passes_rows : (h : Rec) (done added : List Rec) → Passes t (h ∷ done) added → rows_from t (rows (h ∷ done)) (rows added) ≡ none
+  passes_rows : (h : Rec) (done added : List Rec) → Passes t (h ∷ done) added → rows_from t (rows (h ∷ done)) (rows added) ≡ None
   unfolding rows_from rows
   passes_rows h done [] passes_none = refl
   passes_rows h done (x ∷ xs) (passes_more p ps) =
       let more : rows (h ∷ (done ++ (x ∷ []))) ≡ rows (h ∷ done) ++ (x.cells ∷ []) = rows_append (h ∷ done) (x ∷ []) in
       rw p (rw more at (passes_rows h (done ++ (x ∷ [])) xs ps))
 
-  rows_pass : (h : Rec) (done added : List Rec) → rows_from t (rows (h ∷ done)) (rows added) ≡ none → Passes t (h ∷ done) added
+  rows_pass : (h : Rec) (done added : List Rec) → rows_from t (rows (h ∷ done)) (rows added) ≡ None → Passes t (h ∷ done) added
   unfolding rows_from rows
   rows_pass h done [] e = passes_none
   rows_pass h done (x ∷ xs) e =
@@ -131,9 +131,9 @@ module _ (t : Dialect) where
       CarriedTable t h.cells (rows rs)
   unfolding rows_fault rows_from rows repeat_fault
   passed_carried h rs few texts (passes_more p ps) =
-      let clash : repeat_from t Clash [] 1 h.cells ≡ Sound = (target_sound (into t) true (length (table_text (into t) [])) h.cells p).clash in
-      let header : header_fault t h.cells ≡ Sound = header_sound t h.cells few texts (names_of t Clash [] 1 h.cells clash).1 in
-      let first : row_fault (into t) [] h.cells ≡ Sound = both_sound header p in
+      let clash : repeat_from t Clash [] 1 h.cells ≡ Ok tt = (target_sound (into t) true (length (table_text (into t) [])) h.cells p).clash in
+      let header : header_fault t h.cells ≡ Ok tt = header_sound t h.cells few texts (names_of t Clash [] 1 h.cells clash).1 in
+      let first : row_fault (into t) [] h.cells ≡ Ok tt = both_sound header p in
       carried_of t h.cells (rows rs) (rw first (passes_rows (into t) h [] rs ps))
 
   carried_passes : (h : Rec) (rs : List Rec) → CarriedTable t h.cells (rows rs) → Passes (into t) [] (h ∷ rs)
@@ -206,17 +206,17 @@ module _ (d t : Dialect) (file : Bytes) (room : ℕ) where
           (end, e, carried_records k c, rw same f)
 
 pub converted_exactly :
-    (m n : ℕ) (d t : Dialect) (file : Bytes) (room : ℕ) → dialect_of m ≡ some d → dialect_of n ≡ some t →
+    (m n : ℕ) (d t : Dialect) (file : Bytes) (room : ℕ) → dialect_of m ≡ Some d → dialect_of n ≡ Some t →
     ((converter m n file room).report ≡ accepted) ↔ Carries d t file room
 converted_exactly m n d t file room e k =
     let x = converts_exactly m n d t file room e k in (λ q. converts_carries d t file room (x.0 q), λ c. x.1 (carries_converts d t file room c))
 
 pub converted_text :
-    (m n : ℕ) (d t : Dialect) (file : Bytes) (room : ℕ) (ls : List (Line Derived)) → dialect_of m ≡ some d → dialect_of n ≡ some t → Acceptable d file ls →
+    (m n : ℕ) (d t : Dialect) (file : Bytes) (room : ℕ) (ls : List (Line Derived)) → dialect_of m ≡ Some d → dialect_of n ≡ Some t → Acceptable d file ls →
     (converter m n file room).report ≡ accepted → (converter m n file room).text ≡ table_text (into t) (map row_in ls)
 unfolding choose◌then◌else◌
 converted_text m n d t file room ls e k a q =
-    let x = accepts_from (into t) (read_file d (some (into t)) file) (converter m n file room).report (converter_tells m n d t file room e k) q in
+    let x = accepts_from (into t) (read_file d (Some (into t)) file) (converter m n file room).report (converter_tells m n d t file room e k) q in
     let y = passes_from (into t) x.0 (target_file d (into t) file) x.1 in
     let text : Bytes = table_text (into t) (rows x.0.done) in
     let known : converter m n file room ≡ fitted room text = converter_known m n d t file room e k ∙ ap (converted_as (into t) room) x.1 in

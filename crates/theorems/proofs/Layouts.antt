@@ -7,7 +7,7 @@ use native.Mathlib.Nat.{mul-suc}
 use mathlib.Core.Path.{◌≡◌, refl, ◌∙◌}
 use mathlib.Core.Logic.{◌↔◌}
 use mathlib.Core.Bool.{true}
-use mathlib.Core.Option.{Option, some}
+use Rattle.std.specs.Prelude.{Option, Some}
 use mathlib.Core.List.{List, [], ◌∷◌, ◌++◌, append_assoc}
 use lib.Dec.{eqb}
 use lib.ListN.{length, take, drop, length-append}
@@ -34,7 +34,7 @@ use Rattle.theorems.proofs.CarriedTables.{writes, carried_comes_back}
 -- ---- one cell
 
 -- the number of a kind names it
-kind_named_lem : (k : Kind) → kind_named (kind_number k) ≡ some k
+kind_named_lem : (k : Kind) → kind_named (kind_number k) ≡ Some k
 unfolding kind_named choose◌then◌else◌
 kind_named_lem Text = refl
 kind_named_lem Number = refl
@@ -48,7 +48,7 @@ at o v = record { from = o; upto = o + length v.content; kind = v.kind; content 
 
 cell_laid :
     (before after : Bytes) (v : Value) → ValueCell v →
-    table_cell (before ++ (v.content ++ after)) (length before) (length before + length v.content) (kind_number v.kind) ≡ some (at (length before) v)
+    table_cell (before ++ (v.content ++ after)) (length before) (length before + length v.content) (kind_number v.kind) ≡ Some (at (length before) v)
 unfolding table_cell choose◌then◌else◌
 cell_laid before after v e =
     let bs : Bytes = before ++ (v.content ++ after) in
@@ -80,13 +80,13 @@ laid_same o (v ∷ vs) = and_cell (record { kind = refl; content = refl }) (laid
 abbrev held_in : Bytes → List Value → Option (List Value)
 held_in content vs = table_cells content (starts_of vs) (ends_of vs) (kinds_of vs)
 
-cells_laid : (before : Bytes) (vs : List Value) → All ValueCell vs → held_in (before ++ joined vs) (laid (length before) vs) ≡ some (laid (length before) vs)
+cells_laid : (before : Bytes) (vs : List Value) → All ValueCell vs → held_in (before ++ joined vs) (laid (length before) vs) ≡ Some (laid (length before) vs)
 unfolding table_cells joined laid
 cells_laid before [] all_none = refl
 cells_laid before (v ∷ vs) (all_cons e es) =
     let text : Bytes = v.content in
     let all : before ++ text ++ joined vs ≡ before ++ (text ++ joined vs) = append_assoc before text (joined vs) in
-    let ih : held_in (before ++ text ++ joined vs) (laid (length (before ++ text)) vs) ≡ some (laid (length (before ++ text)) vs) =
+    let ih : held_in (before ++ text ++ joined vs) (laid (length (before ++ text)) vs) ≡ Some (laid (length (before ++ text)) vs) =
     cells_laid (before ++ text) vs es in
     rw (cell_laid before (joined vs) v e, rw (all, length-append before text) at ih)
 
@@ -146,7 +146,7 @@ module _ (h : List Value) (rs : List (List Value)) where
   laid_rows x =
       let even : All (λ (r : List Value). length r ≡ length h) (h ∷ rs) = all_cons refl x.counts in
       let same : SameCells cells (concat (h ∷ rs)) = laid_same 0 (concat (h ∷ rs)) in
-      let whole : held_in (joined (concat (h ∷ rs))) cells ≡ some cells = cells_laid [] (concat (h ∷ rs)) (values_in x.contents) in
+      let whole : held_in (joined (concat (h ∷ rs))) cells ≡ Some cells = cells_laid [] (concat (h ∷ rs)) (values_in x.contents) in
       let count : length cells ≡ length h * suc (length rs) = same_length same ∙ cell_count (length h) even in
       let counted : eqb (length cells) (length h * suc (length rs)) ≡ true = eq-eqb (length cells) (length h * suc (length rs)) count in
       (rows_of (suc (length rs)) (length h) cells, rw (whole, counted, lt-ltb 0 (suc (length rs)) (omega arith)), rows_same (length h) cells (h ∷ rs) same even)
@@ -159,17 +159,17 @@ every_table h rs = (λ x. (laid_table h rs, laid_rows h rs x), λ y. only y.0 y.
         ValueRows k qs
     even_values columns v (all_cons e es) = record { contents = v; counts = rw e es }
 
-    only : (table : Table) (qs : List (List Value)) → rows_in table ≡ some qs → SameRows qs (h ∷ rs) → ValueRows h rs
+    only : (table : Table) (qs : List (List Value)) → rows_in table ≡ Some qs → SameRows qs (h ∷ rs) → ValueRows h rs
     only table qs e (and_row s m) = let x = (rows_even table qs e).0 in values_alike s m (even_values table.columns x.values x.even)
 
 -- ---- written and read back
 
-module _ (n : ℕ) (t : Dialect) (h : List Value) (rs : List (List Value)) (room : ℕ) (known : dialect_of n ≡ some t) (c : CarriedTable t h rs) where
+module _ (n : ℕ) (t : Dialect) (h : List Value) (rs : List (List Value)) (room : ℕ) (known : dialect_of n ≡ Some t) (c : CarriedTable t h rs) where
   abbrev text : Bytes
   text = table_text (into t) (h ∷ rs)
 
   rows_written :
-      (table : Table) (qs : List (List Value)) → rows_in table ≡ some qs → SameRows qs (h ∷ rs) → length text ≤ room →
+      (table : Table) (qs : List (List Value)) → rows_in table ≡ Some qs → SameRows qs (h ∷ rs) → length text ≤ room →
       writer n table room ≡ record { report = accepted; text = text }
   rows_written table qs e (and_row {r = k} {rs = ks} s m) fits =
       let same : table_text (into t) (k ∷ ks) ≡ text = table_same (into t) (and_row s m) in
@@ -177,7 +177,7 @@ module _ (n : ℕ) (t : Dialect) (h : List Value) (rs : List (List Value)) (room
       rw same at (writes n t table k ks room known e carried (rw same fits))
 
   rows_read :
-      (table : Table) (qs : List (List Value)) (places : ℕ) → rows_in table ≡ some qs → SameRows qs (h ∷ rs) → table.columns ≡ length h →
+      (table : Table) (qs : List (List Value)) (places : ℕ) → rows_in table ≡ Some qs → SameRows qs (h ∷ rs) → table.columns ≡ length h →
       table.records ≡ suc (length rs) → length text ≤ room → length (concat (h ∷ rs)) ≤ places → ReadAsRows n h rs text (reader n text places)
   rows_read table qs places e (and_row {r = k} {rs = ks} s m) columns records fits g =
       let same : table_text (into t) (k ∷ ks) ≡ text = table_same (into t) (and_row s m) in
@@ -194,7 +194,7 @@ module _ (n : ℕ) (t : Dialect) (h : List Value) (rs : List (List Value)) (room
       }
 
 pub rows_come_back :
-    (n : ℕ) (t : Dialect) (h : List Value) (rs : List (List Value)) (room places : ℕ) → dialect_of n ≡ some t → ValueRows h rs → CarriedTable t h rs →
+    (n : ℕ) (t : Dialect) (h : List Value) (rs : List (List Value)) (room places : ℕ) → dialect_of n ≡ Some t → ValueRows h rs → CarriedTable t h rs →
     length (table_text (into t) (h ∷ rs)) ≤ room → length (concat (h ∷ rs)) ≤ places →
     ((table : Table) × TableOf h rs table)
     × ((table : Table) → TableOf h rs table → writer n table room ≡ record { report = accepted; text = table_text (into t) (h ∷ rs) })

@@ -4,7 +4,7 @@ use native.Mathlib.Omega.{arith}
 use mathlib.Core.Path.{◌≡◌, refl, sym, ap, ◌∙◌}
 use mathlib.Core.Logic.{◌≢◌}
 use mathlib.Core.Bool.{Bool, true, false}
-use mathlib.Core.Option.{Option, none, some}
+use Rattle.std.specs.Prelude.{Option, None, Some}
 use mathlib.Core.List.{List, [], ◌∷◌, ◌++◌, append-nil, append_assoc}
 use lib.Dec.{ltb}
 use lib.ListN.{length}
@@ -16,7 +16,7 @@ use Rattle.model.specs.declared.ByteFault.TheVariants.{Encoding, Syntax}
 use Rattle.model.specs.declared.Fault.{Fault}
 use Rattle.model.specs.declared.Fault.TheVariants.{NoRecord, Byte, CutShort, CellCount, RepeatedName, HeaderKind, FileTooLong, RecordTooLong}
 use Rattle.model.specs.declared.Fault.TheVariants.{TooManyColumns, NoCells, LacksKind, LoneSurrogate, Clash, TextTooLong, OutputTooLong}
-use Rattle.model.specs.declared.CheckResult.TheVariants.{Sound}
+use Rattle.std.specs.Prelude.{Ok}
 use Rattle.model.specs.rules.Base.{Bytes, is_empty}
 use Rattle.model.specs.rules.Dialect.{dialect_of, into}
 use Rattle.model.specs.rules.Text.{Value, record_text, table_text, ending}
@@ -68,22 +68,22 @@ converted_limit m n file room = by_source (dialect_of m)
 
     by_target : (d : Dialect) (o : Option Dialect) →
         length (elim o as (λ _. Written) [
-          | none ↦ record { report = refusal 11; text = [] }
-          | some t ↦ converted_as (into t) room (read_file d (some (into t)) file)
+          | None ↦ record { report = refusal 11; text = [] }
+          | Some t ↦ converted_as (into t) room (read_file d (Some (into t)) file)
         ]).text ≤ MAXFILE
-    by_target d none = omega arith
-    by_target d (some t) = by_end (into t) (read_file d (some (into t)) file) (file_output d (into t) file)
+    by_target d None = omega arith
+    by_target d (Some t) = by_end (into t) (read_file d (Some (into t)) file) (file_output d (into t) file)
 
     by_source : (o : Option Dialect) →
         length
         (elim o as (λ _. Written) [
-          | none ↦ record { report = refusal 11; text = [] }
-          | some d ↦ elim (dialect_of n) as (λ _. Written)
-              [ none ↦ record { report = refusal 11; text = [] } | some t ↦ converted_as (into t) room (read_file d (some (into t)) file) ]
+          | None ↦ record { report = refusal 11; text = [] }
+          | Some d ↦ elim (dialect_of n) as (λ _. Written)
+              [ None ↦ record { report = refusal 11; text = [] } | Some t ↦ converted_as (into t) room (read_file d (Some (into t)) file) ]
         ]).text
         ≤ MAXFILE
-    by_source none = omega arith
-    by_source (some d) = by_target d (dialect_of n)
+    by_source None = omega arith
+    by_source (Some d) = by_target d (dialect_of n)
 
 -- ten is reported for a file that has a text for which there is no room
 pub converted_room : (m n : ℕ) (file : Bytes) (room : ℕ) → 6 * (length file + 1) ≤ room → (converter m n file room).report ≢ refusal 10
@@ -101,29 +101,29 @@ converted_room m n file room h = by_source (dialect_of m)
 
     by_target : (d : Dialect) (o : Option Dialect) →
         (elim o as (λ _. Written)
-        [ none ↦ record { report = refusal 11; text = [] } | some t ↦ converted_as (into t) room (read_file d (some (into t)) file) ]).report
+        [ None ↦ record { report = refusal 11; text = [] } | Some t ↦ converted_as (into t) room (read_file d (Some (into t)) file) ]).report
         ≢ refusal 10
-    by_target d none = λ e. eleven_ten (ap (λ (x : Report). x.number) e)
-    by_target d (some t) = by_end (into t) (read_file d (some (into t)) file) (let k = file_room d (into t) file in omega (arith, k, h))
+    by_target d None = λ e. eleven_ten (ap (λ (x : Report). x.number) e)
+    by_target d (Some t) = by_end (into t) (read_file d (Some (into t)) file) (let k = file_room d (into t) file in omega (arith, k, h))
 
     by_source : (o : Option Dialect) →
         (elim o as (λ _. Written) [
-          | none ↦ record { report = refusal 11; text = [] }
-          | some d ↦ elim (dialect_of n) as (λ _. Written)
-              [ none ↦ record { report = refusal 11; text = [] } | some t ↦ converted_as (into t) room (read_file d (some (into t)) file) ]
+          | None ↦ record { report = refusal 11; text = [] }
+          | Some d ↦ elim (dialect_of n) as (λ _. Written)
+              [ None ↦ record { report = refusal 11; text = [] } | Some t ↦ converted_as (into t) room (read_file d (Some (into t)) file) ]
         ]).report
         ≢ refusal 10
-    by_source none = λ e. eleven_ten (ap (λ (x : Report). x.number) e)
-    by_source (some d) = by_target d (dialect_of n)
+    by_source None = λ e. eleven_ten (ap (λ (x : Report). x.number) e)
+    by_source (Some d) = by_target d (dialect_of n)
 
 -- ---- the writer
 
-row_target : (t : Target) (done : List (List Value)) (r : List Value) → row_fault t done r ≡ Sound → target_next t done r ≡ Sound
+row_target : (t : Target) (done : List (List Value)) (r : List Value) → row_fault t done r ≡ Ok tt → target_next t done r ≡ Ok tt
 row_target t [] r e = (else_sound (header_fault t.dialect r) (target_next t [] r) e).1
 row_target t (h ∷ rs) r e = e
 
 rows_limit :
-    (t : Target) (done rs : List (List Value)) → rows_from t done rs ≡ none → length (table_text t done) ≤ MAXFILE →
+    (t : Target) (done rs : List (List Value)) → rows_from t done rs ≡ None → length (table_text t done) ≤ MAXFILE →
     length (table_text t (done ++ rs)) ≤ MAXFILE
 unfolding rows_from
 rows_limit t done [] e h = rw (append-nil done) h
@@ -141,23 +141,23 @@ unfolding writer rows_fault table_text
 written_limit n table room = by_dialect (dialect_of n)
   where
     by_fault : (t : Target) (rs : List (List Value)) (o : Option Report) → rows_from t [] rs ≡ o → length (written_rows t room rs o).text ≤ MAXFILE
-    by_fault t rs (some e) q = omega arith
-    by_fault t rs none q = fitted_limit room (table_text t rs) (rows_limit t [] rs q (omega arith))
+    by_fault t rs (Some e) q = omega arith
+    by_fault t rs None q = fitted_limit room (table_text t rs) (rows_limit t [] rs q (omega arith))
 
     by_rows : (t : Target) (o : Option (List (List Value))) →
         length
         (elim o as (λ _. Written)
-        [ none ↦ record { report = refusal 12; text = [] } | some rs ↦ written_rows t room rs (rows_fault t rs) ]).text ≤ MAXFILE
-    by_rows t none = omega arith
-    by_rows t (some rs) = by_fault t rs (rows_fault t rs) refl
+        [ None ↦ record { report = refusal 12; text = [] } | Some rs ↦ written_rows t room rs (rows_fault t rs) ]).text ≤ MAXFILE
+    by_rows t None = omega arith
+    by_rows t (Some rs) = by_fault t rs (rows_fault t rs) refl
 
     by_dialect : (o : Option Dialect) →
         length
         (elim o as (λ _. Written) [
-          | none ↦ record { report = refusal 11; text = [] }
-          | some t ↦ elim (rows_in table) as (λ _. Written)
-              [ none ↦ record { report = refusal 12; text = [] } | some rs ↦ written_rows (into t) room rs (rows_fault (into t) rs) ]
+          | None ↦ record { report = refusal 11; text = [] }
+          | Some t ↦ elim (rows_in table) as (λ _. Written)
+              [ None ↦ record { report = refusal 12; text = [] } | Some rs ↦ written_rows (into t) room rs (rows_fault (into t) rs) ]
         ]).text
         ≤ MAXFILE
-    by_dialect none = omega arith
-    by_dialect (some t) = by_rows (into t) (rows_in table)
+    by_dialect None = omega arith
+    by_dialect (Some t) = by_rows (into t) (rows_in table)

@@ -4,7 +4,7 @@
 use Prim.Native.Nat.{ℕ, ◌≤◌}
 use mathlib.Core.Path.{◌≡◌, refl, sym, ap, ap₂, ◌∙◌}
 use mathlib.Core.Bool.{Bool, true, false}
-use mathlib.Core.Option.{some}
+use Rattle.std.specs.Prelude.{Some}
 use mathlib.Core.List.{List, [], ◌∷◌, ◌++◌, map, map-append}
 use lib.Dec.{ltb}
 use lib.ListN.{length}
@@ -45,7 +45,7 @@ none_read : {A : Type 0} {file : Bytes} {d : Dialect} {ls : List (Line Derived)}
 none_read each_none c = no_records c
 
 pub as_derived :
-    (n : ℕ) (d : Dialect) (file : Bytes) (room : ℕ) (ls : List (Line Derived)) → dialect_of n ≡ some d → Acceptable d file ls → cell_count ls ≤ room →
+    (n : ℕ) (d : Dialect) (file : Bytes) (room : ℕ) (ls : List (Line Derived)) → dialect_of n ≡ Some d → Acceptable d file ls → cell_count ls ≤ room →
     AsDerived ls (reader n file room)
 unfolding choose◌then◌else◌
 as_derived n d file room ls e a k = by_reading (acceptable_read d file ls a)

@@ -5,7 +5,7 @@ use Prim.Native.Nat.{ℕ, suc, ◌+◌, ◌≤◌}
 use native.Mathlib.Omega.{arith}
 use mathlib.Core.Path.{◌≡◌, refl, sym, ap, ◌∙◌}
 use mathlib.Core.Logic.{◌≢◌, ◌↔◌}
-use mathlib.Core.Option.{none, some}
+use Rattle.std.specs.Prelude.{None, Some}
 use mathlib.Core.List.{List, [], ◌∷◌, map, map-map}
 use lib.Dec.{leb}
 use lib.ListN.{length, drop, length-append, length-map}
@@ -18,7 +18,8 @@ use Rattle.model.specs.rules.Decode.{kind_number}
 use Rattle.model.specs.rules.Text.{Value}
 use Rattle.model.specs.rules.Report.{accepted, refusal}
 use Rattle.model.specs.rules.Records.{Rec, rows, Read, Progress, going, read_file}
-use Rattle.model.specs.rules.Api.{Answer, reader, least, starts_of, ends_of, kinds_of, read_call}
+use Rattle.std.specs.Prelude.{min}
+use Rattle.model.specs.rules.Api.{Answer, reader, starts_of, ends_of, kinds_of, read_call}
 use Rattle.model.specs.laws.Laws.{All, all_none, all_cons}
 use Rattle.model.specs.laws.RoundTrips.{Decodes}
 use Rattle.model.proofs.Tests.{split}
@@ -38,33 +39,33 @@ use Rattle.theorems.proofs.ReaderDerivation.{as_derived}
 
 -- ---- the shortest list
 
-below_least : (n a b : ℕ) → n ≤ a → n ≤ b → n ≤ least a b
+below_least : (n a b : ℕ) → n ≤ a → n ≤ b → n ≤ min a b
 below_least n a b p q = split (λ (m : ℕ). n ≤ m) (leb a b) (λ _. p) λ _. q
 
 module _ (starts ends kinds : List ℕ) where
   -- the room of a call with these lists
   abbrev room_in : ℕ
-  room_in = least (length starts) (least (length ends) (length kinds))
+  room_in = min (length starts) (min (length ends) (length kinds))
 
   places_room : (n : ℕ) → HasPlaces n starts ends kinds ↔ (n ≤ room_in)
   places_room n = (enough, only)
     where
       enough : HasPlaces n starts ends kinds → n ≤ room_in
       enough p =
-          let both : n ≤ least (length ends) (length kinds) = below_least n (length ends) (length kinds) p.for_ends p.for_kinds in
-          below_least n (length starts) (least (length ends) (length kinds)) p.for_starts both
+          let both : n ≤ min (length ends) (length kinds) = below_least n (length ends) (length kinds) p.for_ends p.for_kinds in
+          below_least n (length starts) (min (length ends) (length kinds)) p.for_starts both
 
       only : n ≤ room_in → HasPlaces n starts ends kinds
       only h =
-          let both : ℕ = least (length ends) (length kinds) in
-          let x : least (length starts) both ≤ length starts = least_first (length starts) both in
-          let y : least (length starts) both ≤ both = least_second (length starts) both in
+          let both : ℕ = min (length ends) (length kinds) in
+          let x : min (length starts) both ≤ length starts = least_first (length starts) both in
+          let y : min (length starts) both ≤ both = least_second (length starts) both in
           let u : both ≤ length ends = least_first (length ends) (length kinds) in
           let v : both ≤ length kinds = least_second (length ends) (length kinds) in
           record { for_starts = omega arith; for_ends = omega arith; for_kinds = omega arith }
 
 pub accepted_exactly :
-    (n : ℕ) (d : Dialect) (file : Bytes) (starts ends kinds : List ℕ) → dialect_of n ≡ some d →
+    (n : ℕ) (d : Dialect) (file : Bytes) (starts ends kinds : List ℕ) → dialect_of n ≡ Some d →
     ((read_call n file starts ends kinds).report ≡ accepted)
     ↔ ((ls : List (Line Derived)) × Acceptable d file ls × HasPlaces (cell_count ls) starts ends kinds)
 unfolding read_call
@@ -87,18 +88,18 @@ module _ {needs : List Rec → ℕ} {room : ℕ} where
   read_full p x r (reports.no_room h) q n = refl
   read_full p x r (reports.accepts h) q n = absurd (n refl)
 
-module _ (n : ℕ) (d : Dialect) (file : Bytes) (starts ends kinds : List ℕ) (known : dialect_of n ≡ some d) where
+module _ (n : ℕ) (d : Dialect) (file : Bytes) (starts ends kinds : List ℕ) (known : dialect_of n ≡ Some d) where
   abbrev reported : Report
   reported = (reader n file (room_in starts ends kinds)).report
 
-  file_report : ReportsFile (λ (rs : List Rec). length (concat (rows rs))) (room_in starts ends kinds) (read_file d none file) reported
+  file_report : ReportsFile (λ (rs : List Rec). length (concat (rows rs))) (room_in starts ends kinds) (read_file d None file) reported
   file_report = reader_tells n d file (room_in starts ends kinds) known
 
   accepted_with : (reported ≡ accepted) ↔ ((ls : List (Line Derived)) × Acceptable d file ls × (cell_count ls ≤ room_in starts ends kinds))
   accepted_with = reader_exactly n d file (room_in starts ends kinds) known
 
   full_only : reported ≡ refusal 10 → (ls : List (Line Derived)) × Acceptable d file ls × (¬ HasPlaces (cell_count ls) starts ends kinds)
-  full_only q = let x = full_read (read_file d none file) reported file_report q in go (read_acceptable d file x.0 x.1)
+  full_only q = let x = full_read (read_file d None file) reported file_report q in go (read_acceptable d file x.0 x.1)
     where
       go : {r : Read} → AcceptedAs d file r → (ls : List (Line Derived)) × Acceptable d file ls × (¬ HasPlaces (cell_count ls) starts ends kinds)
       go (accepted_as ls a k) = (ls, a, λ h. ten (sym q ∙ accepted_with.1 (ls, a, (places_room starts ends kinds (cell_count ls)).0 h)))
@@ -113,10 +114,10 @@ module _ (n : ℕ) (d : Dialect) (file : Bytes) (starts ends kinds : List ℕ) (
           few (rw same at ((places_room starts ends kinds (cell_count y.0)).1 y.2))
 
       go : ReadAs d file ls → reported ≡ refusal 10
-      go (read_as end e k) = read_full (read_file d none file) reported end file_report e refused
+      go (read_as end e k) = read_full (read_file d None file) reported end file_report e refused
 
 pub too_few_places :
-    (n : ℕ) (d : Dialect) (file : Bytes) (starts ends kinds : List ℕ) → dialect_of n ≡ some d →
+    (n : ℕ) (d : Dialect) (file : Bytes) (starts ends kinds : List ℕ) → dialect_of n ≡ Some d →
     ((read_call n file starts ends kinds).report ≡ refusal 10)
     ↔ ((ls : List (Line Derived)) × Acceptable d file ls × (¬ HasPlaces (cell_count ls) starts ends kinds))
 unfolding read_call
@@ -135,7 +136,7 @@ answer_count ls a x =
     sym (length-map a.cells (λ (v : Value). v.kind)) ∙ ap length x.kinds ∙ length-map (concat (map cells_in ls)) kind_in ∙ cells_count ls
 
 pub filled_as_derived :
-    (n : ℕ) (d : Dialect) (file : Bytes) (starts ends kinds : List ℕ) (ls : List (Line Derived)) (a : Acceptable d file ls) → dialect_of n ≡ some d →
+    (n : ℕ) (d : Dialect) (file : Bytes) (starts ends kinds : List ℕ) (ls : List (Line Derived)) (a : Acceptable d file ls) → dialect_of n ≡ Some d →
     HasPlaces (cell_count ls) starts ends kinds → FilledAsDerived d file ls a.derived (read_call n file starts ends kinds)
 unfolding read_call
 filled_as_derived n d file starts ends kinds ls a e h =
@@ -177,7 +178,7 @@ module _ (n : ℕ) (file : Bytes) where
       each_cons (rw (kind, content) at m) (spans_decode vs cs kinds contents ms)
 
 pub decoded_as_derived :
-    (n : ℕ) (d : Dialect) (file : Bytes) (ls : List (Line Derived)) (a : Acceptable d file ls) → dialect_of n ≡ some d →
+    (n : ℕ) (d : Dialect) (file : Bytes) (ls : List (Line Derived)) (a : Acceptable d file ls) → dialect_of n ≡ Some d →
     Each (DecodesTo n file) (concat (stretches d file ls a.derived)) (concat (map cells_in ls))
 decoded_as_derived n d file ls a e =
     let room : ℕ = cell_count ls in

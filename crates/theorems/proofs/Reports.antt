@@ -3,7 +3,7 @@ use Prim.Native.Nat.{ℕ, ◌≤◌}
 use native.Mathlib.Omega.{arith}
 use mathlib.Core.Path.{◌≡◌, refl, sym, ap, subst, ◌∙◌}
 use mathlib.Core.Bool.{Bool, true, false}
-use mathlib.Core.Option.{Option, none, some}
+use Rattle.std.specs.Prelude.{Option, None, Some}
 use mathlib.Core.List.{List, [], ◌∷◌}
 use lib.Dec.{ltb}
 use lib.ListN.{length}
@@ -11,8 +11,8 @@ use borrow.Author.Tests.{ltb-true, ltb-false}
 use Rattle.model.specs.declared.Report.{Report}
 use Rattle.model.specs.declared.Dialect.{Dialect}
 use Rattle.model.specs.declared.Target.{Target}
-use Rattle.model.specs.declared.CellCheck.{CellCheck}
-use Rattle.model.specs.declared.CellCheck.TheVariants.{WholeCell, Unsound}
+use Rattle.model.specs.rules.Types.{CellCheck}
+use Rattle.std.specs.Prelude.{Ok, Err}
 use Rattle.model.specs.rules.Base.{Bytes, concat}
 use Rattle.model.specs.rules.Dialect.{dialect_of, into}
 use Rattle.model.specs.rules.Decode.{content_of, validate_cell}
@@ -26,34 +26,35 @@ use Rattle.model.proofs.round_trip.RoundTrip.{reader_known}
 use Rattle.model.proofs.round_trip.ConvertBack.{converter_known}
 use Rattle.theorems.specs.Demands.{ReportsFile, ReportsCell, ReportsTable}
 use Rattle.theorems.specs.Demands as told
+use Rattle.model.specs.rules.Types.{cell_fault}
 
 -- ---- 11
 
-pub reader_unknown : (n : ℕ) → dialect_of n ≡ none → (file : Bytes) (room : ℕ) → (reader n file room).report ≡ refusal 11
+pub reader_unknown : (n : ℕ) → dialect_of n ≡ None → (file : Bytes) (room : ℕ) → (reader n file room).report ≡ refusal 11
 unfolding reader
 reader_unknown n e file room = rw (e, reader) refl
 
-pub decoder_unknown : (n : ℕ) → dialect_of n ≡ none → (raw : Bytes) (room : ℕ) → (decoder n raw room).report ≡ refusal 11
+pub decoder_unknown : (n : ℕ) → dialect_of n ≡ None → (raw : Bytes) (room : ℕ) → (decoder n raw room).report ≡ refusal 11
 unfolding decoder
 decoder_unknown n e raw room = rw (e, decoder) refl
 
 pub converter_unknown :
-    (n : ℕ) → dialect_of n ≡ none → (m : ℕ) (file : Bytes) (room : ℕ) →
+    (n : ℕ) → dialect_of n ≡ None → (m : ℕ) (file : Bytes) (room : ℕ) →
     ((converter n m file room).report ≡ refusal 11) × ((converter m n file room).report ≡ refusal 11)
 unfolding converter
 converter_unknown n e m file room = (rw (e, converter) refl, by_source (dialect_of m))
   where
     by_source : (o : Option Dialect) →
         (elim o as (λ _. Written) [
-          | none ↦ record { report = refusal 11; text = [] }
-          | some d ↦ elim (dialect_of n) as (λ _. Written)
-              [ none ↦ record { report = refusal 11; text = [] } | some t ↦ converted_as (into t) room (read_file d (some (into t)) file) ]
+          | None ↦ record { report = refusal 11; text = [] }
+          | Some d ↦ elim (dialect_of n) as (λ _. Written)
+              [ None ↦ record { report = refusal 11; text = [] } | Some t ↦ converted_as (into t) room (read_file d (Some (into t)) file) ]
         ]).report
         ≡ refusal 11
-    by_source none = refl
-    by_source (some d) = rw e refl
+    by_source None = refl
+    by_source (Some d) = rw e refl
 
-pub writer_unknown : (n : ℕ) → dialect_of n ≡ none → (table : Table) (room : ℕ) → (writer n table room).report ≡ refusal 11
+pub writer_unknown : (n : ℕ) → dialect_of n ≡ None → (table : Table) (room : ℕ) → (writer n table room).report ≡ refusal 11
 unfolding writer
 writer_unknown n e table room = rw (e, writer) refl
 
@@ -70,31 +71,31 @@ read_reports room r (h ∷ rs) q =
     (λ x. told.no_room {r = r} (rw q (ltb-true room (cells_of (h ∷ rs)) x))) λ x. told.accepts {r = r} (rw q (ltb-false room (cells_of (h ∷ rs)) x))
 
 pub reader_tells :
-    (n : ℕ) (d : Dialect) (file : Bytes) (room : ℕ) → dialect_of n ≡ some d →
-    ReportsFile (λ (rs : List Rec). length (concat (rows rs))) room (read_file d none file) (reader n file room).report
-reader_tells n d file room e = rw (reader_known n d file room e) (by_end (read_file d none file))
+    (n : ℕ) (d : Dialect) (file : Bytes) (room : ℕ) → dialect_of n ≡ Some d →
+    ReportsFile (λ (rs : List Rec). length (concat (rows rs))) room (read_file d None file) (reader n file room).report
+reader_tells n d file room e = rw (reader_known n d file room e) (by_end (read_file d None file))
   where
     by_end : (p : Progress) → ReportsFile cells_of room p (read_answer p room).report
     by_end (stopped x r) = told.fault
     by_end (going r) = read_reports room r r.done refl
 
 pub decoder_tells :
-    (n : ℕ) (d : Dialect) (raw : Bytes) (room : ℕ) → dialect_of n ≡ some d →
+    (n : ℕ) (d : Dialect) (raw : Bytes) (room : ℕ) → dialect_of n ≡ Some d →
     ReportsCell (length (content_of d raw)) room (validate_cell d raw) (decoder n raw room).report
 unfolding decoder
 decoder_tells n d raw room e = rw (e, decoder) (by_check (validate_cell d raw))
   where
     by_check : (c : CellCheck) → ReportsCell (length (content_of d raw)) room c (decoded_as d raw room c).report
-    by_check (Unsound x o) = told.fault
-    by_check WholeCell =
-        split (λ (a : Decoded). ReportsCell (length (content_of d raw)) room WholeCell a.report) (ltb room (length (content_of d raw)))
+    by_check (Err (cell_fault x o)) = told.fault
+    by_check (Ok _) =
+        split (λ (a : Decoded). ReportsCell (length (content_of d raw)) room (Ok tt) a.report) (ltb room (length (content_of d raw)))
         (λ x. told.no_room (ltb-true room (length (content_of d raw)) x)) λ x. told.accepts (ltb-false room (length (content_of d raw)) x)
 
 pub converter_tells :
-    (m n : ℕ) (d t : Dialect) (file : Bytes) (room : ℕ) → dialect_of m ≡ some d → dialect_of n ≡ some t →
-    ReportsFile (λ (rs : List Rec). length (table_text (into t) (rows rs))) room (read_file d (some (into t)) file)
+    (m n : ℕ) (d t : Dialect) (file : Bytes) (room : ℕ) → dialect_of m ≡ Some d → dialect_of n ≡ Some t →
+    ReportsFile (λ (rs : List Rec). length (table_text (into t) (rows rs))) room (read_file d (Some (into t)) file)
     (converter m n file room).report
-converter_tells m n d t file room e k = rw (converter_known m n d t file room e k) (by_end (read_file d (some (into t)) file))
+converter_tells m n d t file room e k = rw (converter_known m n d t file room e k) (by_end (read_file d (Some (into t)) file))
   where
     needs : List Rec → ℕ
     needs rs = length (table_text (into t) (rows rs))
@@ -106,22 +107,22 @@ converter_tells m n d t file room e k = rw (converter_known m n d t file room e 
         (λ x. told.no_room (ltb-true room (needs r.done) x)) λ x. told.accepts (ltb-false room (needs r.done) x)
 
 pub writer_tells :
-    (n : ℕ) (t : Dialect) (table : Table) (room : ℕ) → dialect_of n ≡ some t →
+    (n : ℕ) (t : Dialect) (table : Table) (room : ℕ) → dialect_of n ≡ Some t →
     ReportsTable (into t) room (rows_in table) (writer n table room).report
 unfolding writer
 writer_tells n t table room e = rw (e, writer) (by_rows (rows_in table))
   where
     by_fault :
         (rs : List (List Value)) (o : Option Report) → rows_fault (into t) rs ≡ o →
-        ReportsTable (into t) room (some rs) (written_rows (into t) room rs o).report
-    by_fault rs (some x) q = told.fault q
-    by_fault rs none q =
-        split (λ (w : Written). ReportsTable (into t) room (some rs) w.report) (ltb room (length (table_text (into t) rs)))
+        ReportsTable (into t) room (Some rs) (written_rows (into t) room rs o).report
+    by_fault rs (Some x) q = told.fault q
+    by_fault rs None q =
+        split (λ (w : Written). ReportsTable (into t) room (Some rs) w.report) (ltb room (length (table_text (into t) rs)))
         (λ x. told.no_room q (ltb-true room (length (table_text (into t) rs)) x)) λ x. told.accepts q (ltb-false room (length (table_text (into t) rs)) x)
 
     by_rows : (o : Option (List (List Value))) →
         ReportsTable (into t) room o
         (elim o as (λ _. Written)
-        [ none ↦ record { report = refusal 12; text = [] } | some rs ↦ written_rows (into t) room rs (rows_fault (into t) rs) ]).report
-    by_rows none = told.no_table
-    by_rows (some rs) = by_fault rs (rows_fault (into t) rs) refl
+        [ None ↦ record { report = refusal 12; text = [] } | Some rs ↦ written_rows (into t) room rs (rows_fault (into t) rs) ]).report
+    by_rows None = told.no_table
+    by_rows (Some rs) = by_fault rs (rows_fault (into t) rs) refl

@@ -2,15 +2,15 @@
 -- the calls' contracts are equations. Demand 3 over the contract of the piece and end calls, `CallContract` of piece_converter's
 -- Contract, and the ledger of model. Nothing else is here.
 use Rattle.std.specs.Prelude.{ℕ, suc, ◌+◌, ◌*◌, ◌<◌, ◌≤◌, ◌≡◌, ◌≢◌, ◌↔◌, true, false, length, take, drop}
-use Rattle.std.proofs.Math.Option.{Option, none, some}
+use Rattle.std.specs.Prelude.{Option, None, Some}
 use mathlib.Core.List.{List, [], ◌∷◌, ◌++◌, map, zip_with}
 use Rattle.model.specs.declared.Report.{Report}
 use Rattle.model.specs.declared.Dialect.{Dialect}
 use Rattle.model.specs.declared.Kind.TheVariants.{Text}
 use Rattle.model.specs.declared.Fault.{Fault}
 use Rattle.model.specs.declared.Target.{Target}
-use Rattle.model.specs.declared.CellCheck.{CellCheck}
-use Rattle.model.specs.declared.CellCheck.TheVariants.{WholeCell, Unsound}
+use Rattle.model.specs.rules.Types.{CellCheck}
+use Rattle.std.specs.Prelude.{Ok, Err}
 use Rattle.model.specs.rules.Base.{Bytes, concat}
 use Rattle.model.specs.rules.Dialect.{dialect_of, into}
 use Rattle.model.specs.rules.Decode.{kind_number, content_of, validate_cell}
@@ -35,6 +35,7 @@ use Rattle.grammar.specs.dialects.Derives.{Derives}
 use Rattle.grammar.specs.dialects.Spans.{Span, stretches, span_of}
 use Rattle.grammar.specs.Accepted.{Acceptable, cell_count}
 use Rattle.grammar.specs.NextByte.{NextByte}
+use Rattle.model.specs.rules.Types.{cell_fault}
 
 -- ---- demand 1
 
@@ -53,16 +54,16 @@ pub data ReportsFile (needs : List Rec → ℕ) (room : ℕ) : Progress → Repo
 
 -- the same of a raw cell, which is in no record (§11.2 §11.6)
 pub data ReportsCell (needs room : ℕ) : CellCheck → Report → Type 0 where
-  fault : {e : Fault} {o : ℕ} → ReportsCell needs room (Unsound e o) (report (number_of e) 0 0 o)
-  no_room : room < needs → ReportsCell needs room WholeCell (refusal 10)
-  accepts : needs ≤ room → ReportsCell needs room WholeCell accepted
+  fault : {e : Fault} {o : ℕ} → ReportsCell needs room (Err (cell_fault e o)) (report (number_of e) 0 0 o)
+  no_room : room < needs → ReportsCell needs room (Ok tt) (refusal 10)
+  accepts : needs ≤ room → ReportsCell needs room (Ok tt) accepted
 
 -- the same of a table: 12 if it is none (§13.2 §13.11 §13.13)
 pub data ReportsTable (t : Target) (room : ℕ) : Option (List (List Value)) → Report → Type 0 where
-  no_table : ReportsTable t room none (refusal 12)
-  fault : {rs : List (List Value)} {e : Report} → rows_fault t rs ≡ some e → ReportsTable t room (some rs) e
-  no_room : {rs : List (List Value)} → rows_fault t rs ≡ none → room < length (table_text t rs) → ReportsTable t room (some rs) (refusal 10)
-  accepts : {rs : List (List Value)} → rows_fault t rs ≡ none → length (table_text t rs) ≤ room → ReportsTable t room (some rs) accepted
+  no_table : ReportsTable t room None (refusal 12)
+  fault : {rs : List (List Value)} {e : Report} → rows_fault t rs ≡ Some e → ReportsTable t room (Some rs) e
+  no_room : {rs : List (List Value)} → rows_fault t rs ≡ None → room < length (table_text t rs) → ReportsTable t room (Some rs) (refusal 10)
+  accepts : {rs : List (List Value)} → rows_fault t rs ≡ None → length (table_text t rs) ≤ room → ReportsTable t room (Some rs) accepted
 
 pub record Demand1 : Type 0 where
   -- each lent list or buffer after the call
@@ -80,23 +81,23 @@ pub record Demand1 : Type 0 where
       Leaves (writer n table (length room)).report (length (writer n table (length room)).text) room (writer_leaves n table room)
   -- 11 for a number that is no dialect's, before all else
   pub unknown :
-      (n : ℕ) → dialect_of n ≡ none →
+      (n : ℕ) → dialect_of n ≡ None →
       ((file : Bytes) (room : ℕ) → (reader n file room).report ≡ refusal 11)
       × ((raw : Bytes) (room : ℕ) → (decoder n raw room).report ≡ refusal 11)
       × ((m : ℕ) (file : Bytes) (room : ℕ) → ((converter n m file room).report ≡ refusal 11) × ((converter m n file room).report ≡ refusal 11))
       × ((table : Table) (room : ℕ) → (writer n table room).report ≡ refusal 11)
   -- otherwise the report that the table of faults gives
   pub reader_tells :
-      (n : ℕ) (d : Dialect) (file : Bytes) (room : ℕ) → dialect_of n ≡ some d →
-      ReportsFile (λ rs. length (concat (rows rs))) room (read_file d none file) (reader n file room).report
+      (n : ℕ) (d : Dialect) (file : Bytes) (room : ℕ) → dialect_of n ≡ Some d →
+      ReportsFile (λ rs. length (concat (rows rs))) room (read_file d None file) (reader n file room).report
   pub decoder_tells :
-      (n : ℕ) (d : Dialect) (raw : Bytes) (room : ℕ) → dialect_of n ≡ some d →
+      (n : ℕ) (d : Dialect) (raw : Bytes) (room : ℕ) → dialect_of n ≡ Some d →
       ReportsCell (length (content_of d raw)) room (validate_cell d raw) (decoder n raw room).report
   pub converter_tells :
-      (m n : ℕ) (d t : Dialect) (file : Bytes) (room : ℕ) → dialect_of m ≡ some d → dialect_of n ≡ some t →
-      ReportsFile (λ rs. length (table_text (into t) (rows rs))) room (read_file d (some (into t)) file) (converter m n file room).report
+      (m n : ℕ) (d t : Dialect) (file : Bytes) (room : ℕ) → dialect_of m ≡ Some d → dialect_of n ≡ Some t →
+      ReportsFile (λ rs. length (table_text (into t) (rows rs))) room (read_file d (Some (into t)) file) (converter m n file room).report
   pub writer_tells :
-      (n : ℕ) (t : Dialect) (table : Table) (room : ℕ) → dialect_of n ≡ some t →
+      (n : ℕ) (t : Dialect) (table : Table) (room : ℕ) → dialect_of n ≡ Some t →
       ReportsTable (into t) room (rows_in table) (writer n table room).report
 
 -- ---- demand 2
@@ -129,7 +130,7 @@ pub record ValueRows (h : List Value) (rs : List (List Value)) : Type 0 where
 
 -- a table with these kinds and contents, row by row, wherever they lie in it (§13.1 §13.2)
 abbrev pub TableOf : List Value → List (List Value) → Table → Type 0
-TableOf h rs table = (qs : List (List Value)) × (rows_in table ≡ some qs) × SameRows qs (h ∷ rs)
+TableOf h rs table = (qs : List (List Value)) × (rows_in table ≡ Some qs) × SameRows qs (h ∷ rs)
 
 -- a text that the reader accepts as these rows: the columns, the row count, each kind and content, and each span decodes to its cell (§10.1
 -- §10.2 §10.3 §19.3)
@@ -186,42 +187,42 @@ pub record Demand2 : Type 0 where
   -- a call of the reader accepts exactly what the grammar, the limits and the record checks accept, if each of the three lists has a place
   -- for every cell (§10.5 §19.2)
   pub accepted_exactly :
-      (n : ℕ) (d : Dialect) (file : Bytes) (starts ends kinds : List ℕ) → dialect_of n ≡ some d →
+      (n : ℕ) (d : Dialect) (file : Bytes) (starts ends kinds : List ℕ) → dialect_of n ≡ Some d →
       ((read_call n file starts ends kinds).report ≡ accepted)
       ↔ ((ls : List (Line Derived)) × Acceptable d file ls × HasPlaces (cell_count ls) starts ends kinds)
   -- and reports 10 exactly when these accept it and one of the lists has too few places (§10.5)
   pub too_few_places :
-      (n : ℕ) (d : Dialect) (file : Bytes) (starts ends kinds : List ℕ) → dialect_of n ≡ some d →
+      (n : ℕ) (d : Dialect) (file : Bytes) (starts ends kinds : List ℕ) → dialect_of n ≡ Some d →
       ((read_call n file starts ends kinds).report ≡ refusal 10)
       ↔ ((ls : List (Line Derived)) × Acceptable d file ls × (¬ HasPlaces (cell_count ls) starts ends kinds))
   -- accepting, it counts and fills the lists as the grammar derives (§10.1 §10.2)
   pub filled_as_derived :
-      (n : ℕ) (d : Dialect) (file : Bytes) (starts ends kinds : List ℕ) (ls : List (Line Derived)) (a : Acceptable d file ls) → dialect_of n ≡ some d →
+      (n : ℕ) (d : Dialect) (file : Bytes) (starts ends kinds : List ℕ) (ls : List (Line Derived)) (a : Acceptable d file ls) → dialect_of n ≡ Some d →
       HasPlaces (cell_count ls) starts ends kinds → FilledAsDerived d file ls a.derived (read_call n file starts ends kinds)
   -- each span decodes to the kind and the content that are derived there (§10.3 §11.1)
   pub decoded_as_derived :
-      (n : ℕ) (d : Dialect) (file : Bytes) (ls : List (Line Derived)) (a : Acceptable d file ls) → dialect_of n ≡ some d →
+      (n : ℕ) (d : Dialect) (file : Bytes) (ls : List (Line Derived)) (a : Acceptable d file ls) → dialect_of n ≡ Some d →
       Each (DecodesTo n file) (concat (stretches d file ls a.derived)) (concat (map cells_in ls))
   -- the same of the reader's answer before it is written into the lists: its cells have the kinds and contents that are derived
   pub as_derived :
-      (n : ℕ) (d : Dialect) (file : Bytes) (room : ℕ) (ls : List (Line Derived)) → dialect_of n ≡ some d → Acceptable d file ls → cell_count ls ≤ room →
+      (n : ℕ) (d : Dialect) (file : Bytes) (room : ℕ) (ls : List (Line Derived)) → dialect_of n ≡ Some d → Acceptable d file ls → cell_count ls ≤ room →
       AsDerived ls (reader n file room)
   -- each where the grammar has it
   pub places :
-      (n : ℕ) (d : Dialect) (file : Bytes) (room : ℕ) (ls : List (Line Derived)) (k : Derives d file ls) → dialect_of n ≡ some d →
+      (n : ℕ) (d : Dialect) (file : Bytes) (room : ℕ) (ls : List (Line Derived)) (k : Derives d file ls) → dialect_of n ≡ Some d →
       (reader n file room).report ≡ accepted → map span_of (reader n file room).cells ≡ concat (stretches d file ls k)
   -- and each decodes from there to its kind and content
   pub decodes : ReaderDecodes
   -- the converter accepts exactly the files that are acceptable in the source and whose rows the target can represent within the
   -- limits, if the text has room (§8.1 §12.1 §12.2 §12.3)
   pub converted_exactly :
-      (m n : ℕ) (d t : Dialect) (file : Bytes) (room : ℕ) → dialect_of m ≡ some d → dialect_of n ≡ some t →
+      (m n : ℕ) (d t : Dialect) (file : Bytes) (room : ℕ) → dialect_of m ≡ Some d → dialect_of n ≡ Some t →
       ((converter m n file room).report ≡ accepted)
       ↔ ((l : Line Derived) × (ls : List (Line Derived)) × Acceptable d file (l ∷ ls) × CarriedTable t (row_in l) (map row_in ls)
       × (length (table_text (into t) (map row_in (l ∷ ls))) ≤ room))
   -- and writes these rows
   pub converted_text :
-      (m n : ℕ) (d t : Dialect) (file : Bytes) (room : ℕ) (ls : List (Line Derived)) → dialect_of m ≡ some d → dialect_of n ≡ some t →
+      (m n : ℕ) (d t : Dialect) (file : Bytes) (room : ℕ) (ls : List (Line Derived)) → dialect_of m ≡ Some d → dialect_of n ≡ Some t →
       Acceptable d file ls → (converter m n file room).report ≡ accepted → (converter m n file room).text ≡ table_text (into t) (map row_in ls)
   -- a fault found in the first bytes of a file is the file's: no later one is reported in its place
   pub first_fault :
@@ -235,14 +236,14 @@ pub record Demand2 : Type 0 where
   -- the writer accepts exactly the tables that the dialect can represent within the limits, if the text has room (§13.2 §13.11
   -- §13.13)
   pub written_exactly :
-      (n : ℕ) (t : Dialect) (table : Table) (room : ℕ) → dialect_of n ≡ some t →
+      (n : ℕ) (t : Dialect) (table : Table) (room : ℕ) → dialect_of n ≡ Some t →
       ((writer n table room).report ≡ accepted)
-      ↔ ((h : List Value) × (rs : List (List Value)) × (rows_in table ≡ some (h ∷ rs)) × CarriedTable t h rs × (length (table_text (into t) (h ∷ rs)) ≤ room))
+      ↔ ((h : List Value) × (rs : List (List Value)) × (rows_in table ≡ Some (h ∷ rs)) × CarriedTable t h rs × (length (table_text (into t) (h ∷ rs)) ≤ room))
   -- from the table's side: given room, each table that the dialect can represent within the limits is written, and read back the same
   -- (§19.3)
   pub carried_comes_back :
-      (n : ℕ) (t : Dialect) (table : Table) (h : List Value) (rs : List (List Value)) (room places : ℕ) → dialect_of n ≡ some t →
-      rows_in table ≡ some (h ∷ rs) → CarriedTable t h rs → length (table_text (into t) (h ∷ rs)) ≤ room → length (concat (h ∷ rs)) ≤ places →
+      (n : ℕ) (t : Dialect) (table : Table) (h : List Value) (rs : List (List Value)) (room places : ℕ) → dialect_of n ≡ Some t →
+      rows_in table ≡ Some (h ∷ rs) → CarriedTable t h rs → length (table_text (into t) (h ∷ rs)) ≤ room → length (concat (h ∷ rs)) ≤ places →
       (writer n table room ≡ record { report = accepted; text = table_text (into t) (h ∷ rs) })
       × ReadsBack n table (h ∷ rs) (table_text (into t) (h ∷ rs)) (reader n (table_text (into t) (h ∷ rs)) places)
   -- any rows of values, and no others, are those of a table, up to where the contents lie: nothing hides in how its lists are laid out (§13.1
@@ -251,7 +252,7 @@ pub record Demand2 : Type 0 where
   -- so rows of values that the dialect can represent within the limits have a table; each table of them is written, as the same text;
   -- and the text is read back as these rows (§19.3)
   pub rows_come_back :
-      (n : ℕ) (t : Dialect) (h : List Value) (rs : List (List Value)) (room places : ℕ) → dialect_of n ≡ some t → ValueRows h rs → CarriedTable t h rs →
+      (n : ℕ) (t : Dialect) (h : List Value) (rs : List (List Value)) (room places : ℕ) → dialect_of n ≡ Some t → ValueRows h rs → CarriedTable t h rs →
       length (table_text (into t) (h ∷ rs)) ≤ room → length (concat (h ∷ rs)) ≤ places →
       ((table : Table) × TableOf h rs table)
       × ((table : Table) → TableOf h rs table → writer n table room ≡ record { report = accepted; text = table_text (into t) (h ∷ rs) })
@@ -312,7 +313,7 @@ pub record Demand3 : Type 0 where
       CallContract s c out told next out' → checked m n (entries_of m n made) c ≡ true → (next ≡ s) × (out' ≡ out)
   -- the outputs joined are the canonical text of the records completed in the bytes consumed before any fault (§16.7 §19.4)
   pub joined :
-      (m n : ℕ) (d t : Dialect) (made : List MadeCall) (s : Converter) → dialect_of m ≡ some d → dialect_of n ≡ some t → LedTo m n made s →
+      (m n : ℕ) (d t : Dialect) (made : List MadeCall) (s : Converter) → dialect_of m ≡ Some d → dialect_of n ≡ Some t → LedTo m n made s →
       joined_outputs made ≡ table_text (into t) (rows (records_of (seen_in d (into t) (entries_of m n made))))
   -- once an end call was accepted, the whole converter accepts the bytes consumed too, and its text is the outputs joined (§16.6 §19.4)
   pub whole_text :
@@ -330,12 +331,12 @@ pub record Demand3 : Type 0 where
   -- a fault that a piece call finds, and the records before it, are those of every file that begins with the bytes consumed (§16.5
   -- §16.7)
   pub fault_of_every_file :
-      (m n : ℕ) (d t : Dialect) (made : List MadeCall) (s next : Converter) (bs out out' : List ℕ) (told : TextAnswer) → dialect_of m ≡ some d →
-      dialect_of n ≡ some t → LedTo m n made s → fault_in (entries_of m n made) ≡ none → CallContract s (piece bs (length out)) out told next out' →
+      (m n : ℕ) (d t : Dialect) (made : List MadeCall) (s next : Converter) (bs out out' : List ℕ) (told : TextAnswer) → dialect_of m ≡ Some d →
+      dialect_of n ≡ Some t → LedTo m n made s → fault_in (entries_of m n made) ≡ None → CallContract s (piece bs (length out)) out told next out' →
       is_file_fault told.report ≡ true →
       (e : Fault) × (r : Read) × (told.report ≡ fault_report e r)
       × ((rest : Bytes) →
-      (read_file d (some (into t)) (consumed_by m n made ++ bs ++ rest) ≡ stopped e r)
+      (read_file d (Some (into t)) (consumed_by m n made ++ bs ++ rest) ≡ stopped e r)
       × ((converter m n (consumed_by m n made ++ bs ++ rest) MAXFILE).report ≡ told.report))
   -- no call writes past its output, which is as long as it was: 49,152 bytes are always enough (§15.11)
   pub room :
@@ -348,11 +349,11 @@ pub record Demand3 : Type 0 where
   -- the state shows the records that the bytes consumed complete before any fault, after a fault and an accepted end too: how many
   -- they are, the header's columns, and the raw bytes of its names. A last record that only the end completes is not counted (§15.2)
   pub shown :
-      (m n : ℕ) (d t : Dialect) (made : List MadeCall) (s : Converter) → dialect_of m ≡ some d → dialect_of n ≡ some t → LedTo m n made s →
+      (m n : ℕ) (d t : Dialect) (made : List MadeCall) (s : Converter) → dialect_of m ≡ Some d → dialect_of n ≡ Some t → LedTo m n made s →
       StateShows d t (consumed_by m n made) s
   -- and how many bytes were consumed, as long as no fault was found (§15.2)
   pub counted :
-      (m n : ℕ) (made : List MadeCall) (s : Converter) → LedTo m n made s → fault_in (entries_of m n made) ≡ none →
+      (m n : ℕ) (made : List MadeCall) (s : Converter) → LedTo m n made s → fault_in (entries_of m n made) ≡ None →
       s.offset ≡ length (consumed_by m n made)
   -- from any state, made by calls or not, the length is within the output, which is as long as it was (§15.9)
   pub any_state :

@@ -15,8 +15,8 @@ use Rattle.model.specs.declared.Inner.{Inner}
 use Rattle.model.specs.declared.Inner.TheVariants.{Second, LastTwo, Last}
 use Rattle.model.specs.declared.Char.{Char}
 use Rattle.model.specs.declared.Char.TheVariants.{Whole, Within}
-use Rattle.model.specs.declared.Advance.{Advance}
-use Rattle.model.specs.declared.Advance.TheVariants.{On, Broken}
+use Rattle.std.specs.Prelude.{Option}
+use Rattle.std.specs.Prelude.{Some, None}
 use Rattle.model.specs.rules.Base.{Bytes, choose◌then◌else◌, within}
 use Rattle.model.specs.rules.Utf8.{row_of, leads, lead_byte, after_second, inner_step, char_step}
 use Rattle.model.specs.rules.Api.{slice}
@@ -43,20 +43,20 @@ part_join s i j stop h k =
 
 -- ---- runs join
 
-pub chars_on : (c c' : Char) (b : ℕ) (bs : Bytes) → char_step c b ≡ On c' → chars_from c (b ∷ bs) ≡ chars_from c' bs
+pub chars_on : (c c' : Char) (b : ℕ) (bs : Bytes) → char_step c b ≡ Some c' → chars_from c (b ∷ bs) ≡ chars_from c' bs
 unfolding chars_from
 chars_on c c' b bs e = rw (e, chars_from)
 
-pub chars_join : (c c' : Char) (xs ys : Bytes) → chars_from c xs ≡ On c' → chars_from c (xs ++ ys) ≡ chars_from c' ys
+pub chars_join : (c c' : Char) (xs ys : Bytes) → chars_from c xs ≡ Some c' → chars_from c (xs ++ ys) ≡ chars_from c' ys
 unfolding chars_from
 chars_join c c' [] ys e = let z : c ≡ c' = cc in rw z
 chars_join c c' (b ∷ xs) ys e = go (char_step c b) refl e λ t. chars_join t c' xs ys
   where
-    go : (o : Advance) → char_step c b ≡ o → (elim o as (λ _. Advance) [ On t ↦ chars_from t xs | Broken ↦ Broken ]) ≡ On c'
-        → ((t : Char) → chars_from t xs ≡ On c' → chars_from t (xs ++ ys) ≡ chars_from c' ys)
+    go : (o : Option Char) → char_step c b ≡ o → (elim o as (λ _. Option Char) [ Some t ↦ chars_from t xs | None ↦ None ]) ≡ Some c'
+        → ((t : Char) → chars_from t xs ≡ Some c' → chars_from t (xs ++ ys) ≡ chars_from c' ys)
         → chars_from c (b ∷ (xs ++ ys)) ≡ chars_from c' ys
-    go (On t) p k ih = chars_on c t b (xs ++ ys) p ∙ ih t k
-    go Broken p k ih = broken_on k
+    go (Some t) p k ih = chars_on c t b (xs ++ ys) p ∙ ih t k
+    go None p k ih = broken_on k
 
 high_join : (xs ys : Bytes) → all_high xs ≡ true → all_high ys ≡ true → all_high (xs ++ ys) ≡ true
 unfolding all_high
@@ -86,17 +86,17 @@ wide_join {s} {at} {i} {stop} {r} x y =
 -- ---- one character
 
 -- the first byte of a multibyte character is not ASCII
-first_high : (b : ℕ) (i : Inner) → char_step Whole b ≡ On (Within i) → 0x80 ≤ b
+first_high : (b : ℕ) (i : Inner) → char_step Whole b ≡ Some (Within i) → 0x80 ≤ b
 first_high b i e =
     split_on (leb b 0x7F)
     (λ t. let w = ascii_whole b (leb-true b 0x7F t) in let z : ◌≡◌ {A = ℕ} 0 1 = cc in absurd (omega arith))
     λ t. omega (arith, leb-false b 0x7F t)
 
-second_step : (l : Lead) (b : ℕ) → (row_of l).lo2 ≤ b → b ≤ (row_of l).hi2 → char_step (Within (Second l)) b ≡ On (after_second (row_of l).size)
+second_step : (l : Lead) (b : ℕ) → (row_of l).lo2 ≤ b → b ≤ (row_of l).hi2 → char_step (Within (Second l)) b ≡ Some (after_second (row_of l).size)
 unfolding char_step inner_step choose◌then◌else◌
 second_step l b h k = rw (le-leb (row_of l).lo2 b h, le-leb b (row_of l).hi2 k)
 
-later_step : (b : ℕ) → within 0x80 0xBF b ≡ true → (char_step (Within LastTwo) b ≡ On (Within Last)) × (char_step (Within Last) b ≡ On Whole)
+later_step : (b : ℕ) → within 0x80 0xBF b ≡ true → (char_step (Within LastTwo) b ≡ Some (Within Last)) × (char_step (Within Last) b ≡ Some Whole)
 unfolding char_step inner_step choose◌then◌else◌
 later_step b e = (rw e, rw e)
 
@@ -104,11 +104,11 @@ high_on : (b : ℕ) (bs : Bytes) → 0x80 ≤ b → all_high bs ≡ true → all
 unfolding all_high
 high_on b bs h e = rw (le-leb 0x80 b h, e)
 
-module _ (l : Lead) (a b : ℕ) (first : char_step Whole a ≡ On (Within (Second l))) (low : (row_of l).lo2 ≤ b) (high : b ≤ (row_of l).hi2) where
+module _ (l : Lead) (a b : ℕ) (first : char_step Whole a ≡ Some (Within (Second l))) (low : (row_of l).lo2 ≤ b) (high : b ≤ (row_of l).hi2) where
   wide_two : (row_of l).size ≡ 2 → WideText (a ∷ b ∷ [])
   unfolding chars_from all_high choose◌then◌else◌
   wide_two n =
-      let second : char_step (Within (Second l)) b ≡ On Whole = second_step l b low high ∙ rw n in
+      let second : char_step (Within (Second l)) b ≡ Some Whole = second_step l b low high ∙ rw n in
       record {
         high = high_on a (b ∷ []) (first_high a (Second l) first) (high_on b [] (inner_high (Second l) b Whole second) refl);
         whole = chars_on Whole (Within (Second l)) a (b ∷ []) first ∙ chars_on (Within (Second l)) Whole b [] second;
@@ -117,8 +117,8 @@ module _ (l : Lead) (a b : ℕ) (first : char_step Whole a ≡ On (Within (Secon
   wide_three : (c : ℕ) → (row_of l).size ≡ 3 → within 0x80 0xBF c ≡ true → WideText (a ∷ b ∷ c ∷ [])
   unfolding chars_from all_high choose◌then◌else◌
   wide_three c n later =
-      let second : char_step (Within (Second l)) b ≡ On (Within Last) = second_step l b low high ∙ rw n in
-      let last : char_step (Within Last) c ≡ On Whole = (later_step c later).1 in
+      let second : char_step (Within (Second l)) b ≡ Some (Within Last) = second_step l b low high ∙ rw n in
+      let last : char_step (Within Last) c ≡ Some Whole = (later_step c later).1 in
       record {
         high =
             high_on a (b ∷ c ∷ []) (first_high a (Second l) first)
@@ -131,9 +131,9 @@ module _ (l : Lead) (a b : ℕ) (first : char_step Whole a ≡ On (Within (Secon
   wide_four : (c e : ℕ) → (row_of l).size ≡ 4 → within 0x80 0xBF c ≡ true → within 0x80 0xBF e ≡ true → WideText (a ∷ b ∷ c ∷ e ∷ [])
   unfolding chars_from all_high choose◌then◌else◌
   wide_four c e n later end =
-      let second : char_step (Within (Second l)) b ≡ On (Within LastTwo) = second_step l b low high ∙ rw n in
-      let third : char_step (Within LastTwo) c ≡ On (Within Last) = (later_step c later).0 in
-      let last : char_step (Within Last) e ≡ On Whole = (later_step e end).1 in
+      let second : char_step (Within (Second l)) b ≡ Some (Within LastTwo) = second_step l b low high ∙ rw n in
+      let third : char_step (Within LastTwo) c ≡ Some (Within Last) = (later_step c later).0 in
+      let last : char_step (Within Last) e ≡ Some Whole = (later_step e end).1 in
       record {
         high =
             high_on a (b ∷ c ∷ e ∷ []) (first_high a (Second l) first)
@@ -152,7 +152,7 @@ skip_row : (l : Lead) (ls : List Lead) (b : ℕ) → (row_of l).hi < b → lead_
 unfolding lead_byte choose◌then◌else◌
 skip_row l ls b h = rw (lt-leb b (row_of l).hi h, and-false (leb (row_of l).lo b))
 
-take_row : (l : Lead) (ls : List Lead) (b : ℕ) → (row_of l).lo ≤ b → b ≤ (row_of l).hi → lead_byte (l ∷ ls) b ≡ On (Within (Second l))
+take_row : (l : Lead) (ls : List Lead) (b : ℕ) → (row_of l).lo ≤ b → b ≤ (row_of l).hi → lead_byte (l ∷ ls) b ≡ Some (Within (Second l))
 unfolding lead_byte choose◌then◌else◌
 take_row l ls b h k = rw (le-leb (row_of l).lo b h, le-leb b (row_of l).hi k)
 

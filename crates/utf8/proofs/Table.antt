@@ -12,7 +12,7 @@ use Rattle.model.specs.declared.Lead.{Lead}
 use Rattle.model.specs.declared.Lead.TheVariants.{C2ToDf}
 use Rattle.model.specs.declared.Inner.TheVariants.{Second}
 use Rattle.model.specs.declared.Char.TheVariants.{Within}
-use Rattle.model.specs.declared.Advance.TheVariants.{On, Broken}
+use Rattle.std.specs.Prelude.{Some, None}
 
 -- one field of each row
 abbrev pub column : (Row → ℕ) → List Lead → List ℕ
@@ -43,7 +43,7 @@ highs = column (λ r. r.hi2) leads
 lead_from : (ls : List Lead) (i b : ℕ) → i < length ls
     → lead_byte (drop i ls) b
     ≡ (choose within (get_or (column (λ r. r.lo) ls) i 0) (get_or (column (λ r. r.hi) ls) i 0) b
-    then On (Within (Second (get_or ls i C2ToDf))) else lead_byte (drop (suc i) ls) b)
+    then Some (Within (Second (get_or ls i C2ToDf))) else lead_byte (drop (suc i) ls) b)
 unfolding lead_byte
 lead_from [] i b h = absurd (not-suc-le-zero h)
 lead_from (l ∷ ls) zero b h = refl
@@ -51,12 +51,12 @@ lead_from (l ∷ ls) (suc i) b h = lead_from ls i b (le_of_suc-le-suc h)
 
 module _ (i b : ℕ) (h : i < 8) where
   pub lead_at : lead_byte (drop i leads) b
-      ≡ (choose within (get_or firsts i 0) (get_or lasts i 0) b then On (Within (Second (get_or leads i C2ToDf))) else lead_byte (drop (suc i) leads) b)
+      ≡ (choose within (get_or firsts i 0) (get_or lasts i 0) b then Some (Within (Second (get_or leads i C2ToDf))) else lead_byte (drop (suc i) leads) b)
   unfolding leads
   lead_at = lead_from leads i b h
 
   -- the second byte of a character whose row has index i
   pub second_at : {l : Lead} → get_or leads i C2ToDf ≡ l
-      → inner_step (Second l) b ≡ (choose within (get_or lows i 0) (get_or highs i 0) b then On (after_second (get_or sizes i 0)) else Broken)
+      → inner_step (Second l) b ≡ (choose within (get_or lows i 0) (get_or highs i 0) b then Some (after_second (get_or sizes i 0)) else None)
   unfolding leads inner_step
   second_at e = rw (← e, entry (λ r. r.lo2) leads i h, entry (λ r. r.hi2) leads i h, entry (λ r. r.size) leads i h)

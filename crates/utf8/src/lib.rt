@@ -11,10 +11,10 @@ ghost use Rattle.model.specs.rules.Base.{choose◌then◌else◌, within};
 ghost use Rattle.model.specs.rules.Utf8.{leads, lead_byte, inner_step, char_step};
 ghost use Rattle.model.specs.declared.Lead.TheVariants.{C2ToDf};
 ghost use Rattle.model.specs.declared.Inner.TheVariants.{Second};
-ghost use Rattle.model.specs.declared.Advance.TheVariants.{On, Broken};
+ghost use Rattle.std.specs.Prelude.{Some, None};
 ghost use Rattle.utf8.specs.Codes.{Packs, Joins};
 
-use model::{Advance, Char, Inner, Lead};
+use model::{Char, Inner, Lead};
 
 pub mod multibyte;
 
@@ -69,7 +69,7 @@ fn row_of(l: Lead) -> usize
 // ---- a text, a byte at a time
 
 // The first byte of a multibyte character.
-fn lead_byte(b: u8) -> Advance
+fn lead_byte(b: u8) -> Option<Char>
     ensures { result ≡ lead_byte leads b }
 {
     let first = FIRST;
@@ -79,56 +79,56 @@ fn lead_byte(b: u8) -> Advance
     while row < 8 {
         if first[row] <= b {
             if b <= last[row] {
-                return Advance::On(Char::Within(Inner::Second(rows[row])));
+                return Some(Char::Within(Inner::Second(rows[row])));
             }
         }
         row += 1;
     }
-    Advance::Broken
+    None
 }
 
 // The second byte of a character of this row.
-fn second_byte(l: Lead, b: u8) -> Advance
+fn second_byte(l: Lead, b: u8) -> Option<Char>
     ensures { result ≡ inner_step (Second l) b }
 {
     let row = row_of(l);
     if b < LOW[row] {
-        return Advance::Broken;
+        return None;
     }
     if HIGH[row] < b {
-        return Advance::Broken;
+        return None;
     }
     let size = LENGTH[row];
     if size == 2 {
-        return Advance::On(Char::Whole);
+        return Some(Char::Whole);
     }
     if size == 3 {
-        return Advance::On(Char::Within(Inner::Last));
+        return Some(Char::Within(Inner::Last));
     }
-    Advance::On(Char::Within(Inner::LastTwo))
+    Some(Char::Within(Inner::LastTwo))
 }
 
 // A byte after the second, and the state after it.
-fn later_byte(b: u8, after: Char) -> Advance
-    ensures { result ≡ (choose within 0x80 0xBF b then On after else Broken) }
+fn later_byte(b: u8, after: Char) -> Option<Char>
+    ensures { result ≡ (choose within 0x80 0xBF b then Some after else None) }
 {
     if b < LATER[0] {
-        return Advance::Broken;
+        return None;
     }
     if LATER[1] < b {
-        return Advance::Broken;
+        return None;
     }
-    Advance::On(after)
+    Some(after)
 }
 
 // The next byte of a text. ASCII is tested before the table is searched.
-pub fn char_step(c: Char, b: u8) -> Advance
+pub fn char_step(c: Char, b: u8) -> Option<Char>
     ensures { result ≡ char_step c b }
 {
     match c {
         Char::Whole => {
             if b < 0x80 {
-                Advance::On(Char::Whole)
+                Some(Char::Whole)
             } else {
                 lead_byte(b)
             }

@@ -1,20 +1,20 @@
 -- `cell_decoder::decode` meets its contract, by the dialect that the number names.
 use mathlib.Core.Path.{sym, ap, ◌∙◌}
-use Rattle.codes.specs.Named.{dialect_in}
+use Rattle.core.specs.Result.{result_ok}
 use Rattle.cell_decoder.proofs.DecoderAnswers.{known, unknown}
 use Rattle.cell_decoder.proofs.decode.Goals as goal
 
-pub returns-in-Known : goal.returns-in-Known
-returns-in-Known c =
+pub returns-in-Ok : goal.returns-in-Ok
+returns-in-Ok c =
     let called = c.decode_cell in
     let a = c.args in
     let p = known a.dialect a.raw.now a.room.now _ called.result called.new.room
-    (ap dialect_in (sym c.in-Known.is) ∙ c.dialect_of.ensures) (called.ensures.result_value, called.ensures.room_after) in
+    (ap result_ok (sym c.in-Ok.is) ∙ c.try_from.ensures) (called.ensures.result_value, called.ensures.room_after) in
     record { answer = p.0; leaves = p.1 }
 
-pub returns-in-Unknown : goal.returns-in-Unknown
-returns-in-Unknown c =
+pub returns-in-Err : goal.returns-in-Err
+returns-in-Err c =
     let a = c.args in
-    let p = unknown a.dialect a.raw.now a.room.now _ (ap dialect_in (sym c.in-Unknown.is) ∙ c.dialect_of.ensures)
+    let p = unknown a.dialect a.raw.now a.room.now _ (ap result_ok (sym c.in-Err.is) ∙ c.try_from.ensures)
     c.call_report.ensures in
     record { answer = p.0; leaves = p.1 }

@@ -5,31 +5,31 @@ use Rattle.cell_lexer.proofs.cell_step.Goals as goal
 pub returns-in-Is : goal.returns-in-Is
 returns-in-Is c = search (tests, c.in-Is.is, ← c.classify.ensures)
 
-pub returns-in-On : goal.returns-in-On
-returns-in-On c =
+pub returns-in-Some : goal.returns-in-Some
+returns-in-Some c =
     search
-    (tests, c.in-On.is, ← c.char_step.ensures, c.in-InQuotes.is, ← c.classify.ensures)
+    (tests, c.in-Some.is, ← c.char_step.ensures, c.in-InQuotes.is, ← c.classify.ensures)
 
-pub returns-in-Broken : goal.returns-in-Broken
-returns-in-Broken c =
+pub returns-in-None : goal.returns-in-None
+returns-in-None c =
     search (
       tests,
-      c.in-Broken.is,
+      c.in-None.is,
       ← c.char_step.ensures,
       c.in-InQuotes.is,
       ← c.classify.ensures,
     )
 
-pub returns-in-On-char_step : goal.returns-in-On-char_step
-returns-in-On-char_step c =
+pub returns-in-Some-char_step : goal.returns-in-Some-char_step
+returns-in-Some-char_step c =
     search
-    (tests, c.in-On-char_step.is, ← c.char_step-in-InPlain.ensures, c.in-InPlain.is, ← c.classify.ensures)
+    (tests, c.in-Some-char_step.is, ← c.char_step-in-InPlain.ensures, c.in-InPlain.is, ← c.classify.ensures)
 
-pub returns-in-Broken-char_step : goal.returns-in-Broken-char_step
-returns-in-Broken-char_step c =
+pub returns-in-None-char_step : goal.returns-in-None-char_step
+returns-in-None-char_step c =
     search (
       tests,
-      c.in-Broken-char_step.is,
+      c.in-None-char_step.is,
       ← c.char_step-in-InPlain.ensures,
       c.in-InPlain.is,
       ← c.classify.ensures,

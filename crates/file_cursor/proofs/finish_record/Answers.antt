@@ -49,29 +49,29 @@ overflow_add-result c =
     let m : c.args.cursor.done ≤ 16777215 = c.requires.done_bound.0 in
     omega arith
 
-pub overflow_add-result-in-Sound : goal.overflow_add-result-in-Sound
-overflow_add-result-in-Sound c =
+pub overflow_add-result-in-Ok : goal.overflow_add-result-in-Ok
+overflow_add-result-in-Ok c =
     let a = c.args in
-    let f : a.cursor.written + c.check_record-r.result.length ≤ 16777215 = c.check_record-r.ensures.fits c.in-Sound.is in
+    let f : a.cursor.written + c.check_record-r.result.length ≤ 16777215 = c.check_record-r.ensures.fits c.in-Ok.is in
     omega arith
 
-pub overflow_add-cursor-in-Faulty : goal.overflow_add-cursor-in-Faulty
-overflow_add-cursor-in-Faulty c =
+pub overflow_add-cursor-in-Err : goal.overflow_add-cursor-in-Err
+overflow_add-cursor-in-Err c =
     let m : c.args.cursor.done ≤ 16777215 = c.requires.done_bound.0 in
     omega arith
 
-pub returns-in-Sound : goal.returns-in-Sound
-returns-in-Sound c =
+pub returns-in-Ok : goal.returns-in-Ok
+returns-in-Ok c =
     let a = c.args in
-    let sound = c.in-Sound.is in
+    let sound = c.in-Ok.is in
     λ rs vs y z.
     ruled_sound a.d a.aim a.file.now a.starts.now a.ends.now a.kinds.now a.cursor a.start a.cells a.state a.next rs vs y z
     _ z.values c.if-cells-gt-MAX_COLUMNS.false _ c.check_record-r.ensures sound
 
-pub returns-in-Faulty : goal.returns-in-Faulty
-returns-in-Faulty c =
+pub returns-in-Err : goal.returns-in-Err
+returns-in-Err c =
     let a = c.args in
     λ rs vs y z.
     ruled_faulty a.d a.aim a.file.now a.starts.now a.ends.now a.kinds.now a.cursor a.start a.cells a.state a.next rs vs y z
     _ z.values c.if-cells-gt-MAX_COLUMNS.false _ c.check_record-r.ensures _ _
-    c.in-Faulty.is c.record_report-in-Faulty.ensures
+    c.in-Err.is c.record_report-in-Err.ensures

@@ -3,10 +3,10 @@ use Rattle.model.specs.rules.Base.{choose◌then◌else◌}
 use Rattle.model.proofs.Tests.{tests}
 use Rattle.file_lexer.proofs.comment_text.Goals as goal
 
-pub returns-in-On : goal.returns-in-On
+pub returns-in-Some : goal.returns-in-Some
 unfolding choose◌then◌else◌
-returns-in-On c = search (tests, c.in-On.is, ← c.char_step.ensures)
+returns-in-Some c = search (tests, c.in-Some.is, ← c.char_step.ensures)
 
-pub returns-in-Broken : goal.returns-in-Broken
+pub returns-in-None : goal.returns-in-None
 unfolding choose◌then◌else◌
-returns-in-Broken c = search (tests, c.in-Broken.is, ← c.char_step.ensures)
+returns-in-None c = search (tests, c.in-None.is, ← c.char_step.ensures)

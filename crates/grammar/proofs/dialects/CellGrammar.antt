@@ -3,7 +3,7 @@
 use mathlib.Core.Path.{◌≡◌}
 use mathlib.Core.Logic.{◌↔◌}
 use Rattle.grammar.specs.rfc.Types.{Dialect, Csvj, Tdif, CsvPlus, Fresh}
-use Rattle.model.specs.declared.CellCheck.TheVariants.{WholeCell}
+use Rattle.std.specs.Prelude.{Ok}
 use Rattle.model.specs.rules.Base.{Bytes}
 use Rattle.model.specs.rules.Decode.{validate_cell}
 use Rattle.grammar.specs.rfc.Derived.{Derived, cell, raw_of}
@@ -40,5 +40,5 @@ spells_derived d raw m = go (spells_some d raw m)
 
 -- ---- the theorem for a single cell
 
-pub cell_exact : (d : Dialect) (raw : Bytes) → DerivesCell d (decoded d raw) ↔ (validate_cell d raw ≡ WholeCell)
+pub cell_exact : (d : Dialect) (raw : Bytes) → DerivesCell d (decoded d raw) ↔ (validate_cell d raw ≡ Ok tt)
 cell_exact d raw = ((λ v. spells_validated (derived_spells d (decoded d raw) v)), (λ e. spells_derived d raw (validated_spells d raw e)))

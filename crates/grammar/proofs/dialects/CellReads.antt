@@ -5,7 +5,7 @@ use Prim.Native.Nat.{ℕ}
 use mathlib.Core.Path.{◌≡◌, refl, sym, ◌∙◌}
 use mathlib.Core.Bool.{Bool, true, false}
 use mathlib.Core.List.{List, [], ◌∷◌, ◌++◌}
-use Rattle.grammar.specs.rfc.Types.{Dialect, Cell, Fresh, CellStep, More, Stop, Refuse, Syntax, FileState, Inside, OfCell, To}
+use Rattle.grammar.specs.rfc.Types.{Dialect, Cell, Fresh, CellStep, More, Stop, Refuse, Syntax, FileState, Inside, OfCell, Ok}
 use borrow.Author.Tests.{ne_eqb}
 use Rattle.model.specs.rules.Base.{Bytes, ◌is◌}
 use Rattle.model.specs.rules.Cell.{cell_step, is_whole}
@@ -28,7 +28,7 @@ abbrev pub Follows : Dialect → (o : ℕ) → Bytes → (text : Bytes) (cells :
 Follows d o ys text cells ls ps ss =
     (c : Cell) (p : ℕ) → Reached d c → is_whole d c ≡ true → Runs d (Inside c) o p ys (line text ([] ∷ cells) ∷ ls) ((span p o ∷ ps) ∷ ss)
 
-pub cell_step_lem : (d : Dialect) (c e : Cell) (b : ℕ) → cell_step d c b ≡ More e → file_step d (Inside c) b ≡ To (Inside e) OfCell
+pub cell_step_lem : (d : Dialect) (c e : Cell) (b : ℕ) → cell_step d c b ≡ More e → file_step d (Inside c) b ≡ Ok (Inside e, OfCell)
 unfolding file_step in_cell
 cell_step_lem d c e b s = rw s
 
@@ -88,7 +88,7 @@ module _ {d : Dialect} {After : Bytes → Bytes → List Bytes → List (Line By
   unfolding in_cell
   in_cell_byte K c b bs ls inside after t = go (cell_step d c b) refl t
     where
-      more : (e : Cell) {ls : List (Line Bytes)} → cell_step d c b ≡ More e → Takes K b (To (Inside e) OfCell) ls → CellThen d After c (b ∷ bs) ls
+      more : (e : Cell) {ls : List (Line Bytes)} → cell_step d c b ≡ More e → Takes K b (Ok (Inside e, OfCell)) ls → CellThen d After c (b ∷ bs) ls
       more e s (steps.of_cell k) = more_cell s (inside e _ k)
 
       go : (a : CellStep) → cell_step d c b ≡ a → Takes K b (grow a (after_cell d true b)) ls → CellThen d After c (b ∷ bs) ls

@@ -9,9 +9,9 @@ use mathlib.Core.Bool.{Bool, true, false}
 use mathlib.Core.List.{List, [], ◌∷◌, ◌++◌, append_assoc}
 use lib.Dec.{leb}
 use borrow.Author.Tests.{eqb-false, leb-true, leb-false}
-use Rattle.grammar.specs.rfc.Types.{Dialect, EeToEf, Second, Last, Inner, Char, Whole, Within, Advance, On, Broken, Cell, Fresh, Plain}
+use Rattle.grammar.specs.rfc.Types.{Dialect, EeToEf, Second, Last, Inner, Char, Whole, Within, Option, Some, None, Cell, Fresh, Plain}
 use Rattle.grammar.specs.rfc.Types.{FileState, Top, Begin, Ended, Bom1, Bom2, PlainBom1, PlainBom2, Comment, Blanks, ExpectCell, Inside, After}
-use Rattle.grammar.specs.rfc.Types.{Cr, Outside, Passed, OfCell, Between, Ends, Step, To, Clean}
+use Rattle.grammar.specs.rfc.Types.{Cr, Outside, Passed, OfCell, Between, Ends, Step, Ok, Clean}
 use Rattle.model.specs.rules.Base.{Bytes, ◌is◌}
 use Rattle.model.specs.rules.Utf8.{char_step}
 use Rattle.model.specs.rules.File.{is_blank, after_cell, in_cell, begin_record, begin_file, commented, file_step, last_cell, file_end}
@@ -127,14 +127,14 @@ ascii_commentdata b h n m =
 
 module _ {Lines : Outcome} where
   more_remark :
-      (c : Char) (b : ℕ) {xs : Bytes} {ls : List (Line Bytes)} → b ≢ LF → b ≢ CR → char_step Whole b ≡ On c → InComment Lines c xs ls →
+      (c : Char) (b : ℕ) {xs : Bytes} {ls : List (Line Bytes)} → b ≢ LF → b ≢ CR → char_step Whole b ≡ Some c → InComment Lines c xs ls →
       InComment Lines Whole (b ∷ xs) ls
   more_remark Whole b n m e (in_comment finished k t) = in_comment finished (commentdata (ascii_commentdata b (whole_ascii b e) n m) k) t
   more_remark (Within i) b n m e (in_comment {cs} {bs} {ys} f k t) =
       rw (← (append_assoc cs bs ys)) (in_comment finished (commentdata (comment_beyond (long_data (long e f))) k) t)
 
   inner_remark :
-      {i : Inner} {c : Char} {b : ℕ} {xs : Bytes} {ls : List (Line Bytes)} → char_step (Within i) b ≡ On c → InComment Lines c xs ls →
+      {i : Inner} {c : Char} {b : ℕ} {xs : Bytes} {ls : List (Line Bytes)} → char_step (Within i) b ≡ Some c → InComment Lines c xs ls →
       InComment Lines (Within i) (b ∷ xs) ls
   inner_remark e (in_comment f k t) = in_comment (finishing e f) k t
 
@@ -174,19 +174,19 @@ module _ (d : Dialect) (g : Grammar) where
       line_byte : (b : ℕ) (ls : List (Line Bytes)) → Takes (Then bs) b (begin_record d b) ls → g.Lines (b ∷ bs) ls
       line_byte b ls t = facts.first_line bs b ls (facts.first_byte_lem bs b ls t)
 
-      skip_taken : {b : ℕ} {ls : List (Line Bytes)} → Takes (Then bs) b (To Begin Passed) ls → AfterBreak g.Lines (LF ∷ bs) ls
+      skip_taken : {b : ℕ} {ls : List (Line Bytes)} → Takes (Then bs) b (Ok (Begin, Passed)) ls → AfterBreak g.Lines (LF ∷ bs) ls
       skip_taken (steps.passed k) = skips k
 
-      bb_taken : {b : ℕ} {ls : List (Line Bytes)} → Takes (Then bs) b (To Bom2 Outside) ls → MarkRest g.Lines (0xBB ∷ bs) ls
+      bb_taken : {b : ℕ} {ls : List (Line Bytes)} → Takes (Then bs) b (Ok (Bom2, Outside)) ls → MarkRest g.Lines (0xBB ∷ bs) ls
       bb_taken (steps.outside m) = go m
         where
           go : {xs : Bytes} {ls : List (Line Bytes)} → MarkLast g.Lines xs ls → MarkRest g.Lines (0xBB ∷ xs) ls
           go (mark_bf k) = mark_bb k
 
-      bf_taken : {b : ℕ} {ls : List (Line Bytes)} → Takes (Then bs) b (To Begin Passed) ls → MarkLast g.Lines (0xBF ∷ bs) ls
+      bf_taken : {b : ℕ} {ls : List (Line Bytes)} → Takes (Then bs) b (Ok (Begin, Passed)) ls → MarkLast g.Lines (0xBF ∷ bs) ls
       bf_taken (steps.passed m) = mark_bf m
 
-      plain_taken : {ls : List (Line Bytes)} → Takes (Then bs) 0xBB (To PlainBom2 OfCell) ls → ToResult d g PlainBom1 (0xBB ∷ bs) ls
+      plain_taken : {ls : List (Line Bytes)} → Takes (Then bs) 0xBB (Ok (PlainBom2, OfCell)) ls → ToResult d g PlainBom1 (0xBB ∷ bs) ls
       plain_taken (steps.of_cell k) = (λ m. k.0 (completes_bom m).1, more_cell (bom_rest d) k.1)
 
       plain_rest : (b : ℕ) (ls : List (Line Bytes)) → Takes (Then bs) b (file_step d PlainBom1 b) ls → ToResult d g PlainBom1 (b ∷ bs) ls
@@ -202,13 +202,13 @@ module _ (d : Dialect) (g : Grammar) where
           split (λ s. Takes (Then bs) b s ls → ToResult d g PlainBom2 (b ∷ bs) ls) (b is 0xBF) (λ p t. rejected t) λ p t.
           (λ m. eqb-false b 0xBF p (ends_bom m), in_cell_lem after_bb b ls t)
 
-      comment_lf : {b : ℕ} {ls : List (Line Bytes)} → Takes (Then bs) b (To Begin Passed) ls → InComment g.Lines Whole (LF ∷ bs) ls
+      comment_lf : {b : ℕ} {ls : List (Line Bytes)} → Takes (Then bs) b (Ok (Begin, Passed)) ls → InComment g.Lines Whole (LF ∷ bs) ls
       comment_lf (steps.passed k) = in_comment finished no_remark (break_then lf k)
 
-      comment_cr : {b : ℕ} {ls : List (Line Bytes)} → Takes (Then bs) b (To Ended Passed) ls → InComment g.Lines Whole (CR ∷ bs) ls
+      comment_cr : {b : ℕ} {ls : List (Line Bytes)} → Takes (Then bs) b (Ok (Ended, Passed)) ls → InComment g.Lines Whole (CR ∷ bs) ls
       comment_cr (steps.passed k) = in_comment finished no_remark (break_cr g.Lines k)
 
-      char_taken : {b : ℕ} {c : Char} {ls : List (Line Bytes)} → Takes (Then bs) b (To (Comment c) Outside) ls → InComment g.Lines c bs ls
+      char_taken : {b : ℕ} {c : Char} {ls : List (Line Bytes)} → Takes (Then bs) b (Ok (Comment c, Outside)) ls → InComment g.Lines c bs ls
       char_taken (steps.outside k) = k
 
       comment_byte : (c : Char) (b : ℕ) (ls : List (Line Bytes)) → Takes (Then bs) b (file_step d (Comment c) b) ls → InComment g.Lines c (b ∷ bs) ls
@@ -219,17 +219,17 @@ module _ (d : Dialect) (g : Grammar) where
           split P (b is CR) (λ p t. rw (is→eq b CR p) (comment_cr t)) λ m t.
           other (eqb-false b LF n) (eqb-false b CR m) (char_step Whole b) refl t
         where
-          other : b ≢ LF → b ≢ CR → (o : Advance) → char_step Whole b ≡ o → Takes (Then bs) b (commented o) ls → InComment g.Lines Whole (b ∷ bs) ls
-          other n m Broken e t = rejected t
-          other n m (On c) e t = more_remark c b n m e (char_taken t)
+          other : b ≢ LF → b ≢ CR → (o : Option Char) → char_step Whole b ≡ o → Takes (Then bs) b (commented o) ls → InComment g.Lines Whole (b ∷ bs) ls
+          other n m None e t = rejected t
+          other n m (Some c) e t = more_remark c b n m e (char_taken t)
       comment_byte (Within i) b ls = go (char_step (Within i) b) refl
         where
-          go : (o : Advance) → char_step (Within i) b ≡ o → Takes (Then bs) b (commented o) ls → InComment g.Lines (Within i) (b ∷ bs) ls
-          go Broken e t = rejected t
-          go (On c) e t = inner_remark e (char_taken t)
+          go : (o : Option Char) → char_step (Within i) b ≡ o → Takes (Then bs) b (commented o) ls → InComment g.Lines (Within i) (b ∷ bs) ls
+          go None e t = rejected t
+          go (Some c) e t = inner_remark e (char_taken t)
 
       blank_wants :
-          (b : ℕ) {ls : List (Line Bytes)} → is_blank b ≡ true → Takes (Then bs) b (To ExpectCell (Between false)) ls →
+          (b : ℕ) {ls : List (Line Bytes)} → is_blank b ≡ true → Takes (Then bs) b (Ok (ExpectCell, Between false)) ls →
           WantedThen d g.Further (b ∷ bs) ls
       blank_wants b p (steps.between m) = go m
         where
@@ -246,7 +246,7 @@ module _ (d : Dialect) (g : Grammar) where
               WantedThen d g.Further xs ls
           go (cell_then m a) k = wanted_then no_ws k
 
-      lf_after_cr : {b : ℕ} {ls : List (Line Bytes)} → Takes (Then bs) b (To Begin (Ends false)) ls → AfterCr g.Lines (LF ∷ bs) ls
+      lf_after_cr : {b : ℕ} {ls : List (Line Bytes)} → Takes (Then bs) b (Ok (Begin, Ends false)) ls → AfterCr g.Lines (LF ∷ bs) ls
       lf_after_cr (steps.ends k) = then_lf k
 
       step_byte : (f : FileState) (b : ℕ) (ls : List (Line Bytes)) → Takes (Then bs) b (file_step d f b) ls → ToResult d g f (b ∷ bs) ls

@@ -5,7 +5,7 @@ use mathlib.Core.Path.{◌≡◌, refl, ◌∙◌}
 use mathlib.Core.Bool.{Bool, true, false}
 use mathlib.Core.List.{List, [], ◌∷◌, ◌++◌, map, append_assoc, append-nil}
 use Rattle.grammar.specs.rfc.Types.{Csvj, Cell, Fresh, More}
-use Rattle.grammar.specs.rfc.Types.{FileState, Top, Begin, Bom1, Blanks, ExpectCell, Inside, After, Cr, Outside, Between, Tail, Ends, Step, To}
+use Rattle.grammar.specs.rfc.Types.{FileState, Top, Begin, Bom1, Blanks, ExpectCell, Inside, After, Cr, Outside, Between, Tail, Ends, Step, Ok}
 use Rattle.model.specs.rules.Base.{Bytes, ◌is◌, choose◌then◌else◌}
 use Rattle.model.specs.rules.Cell.{first_byte, cell_step, is_whole}
 use Rattle.model.specs.rules.File.{is_blank, after_cell, begin_record, begin_file, file_step, file_end}
@@ -37,7 +37,7 @@ record Continues (o : ℕ) (ys text : Bytes) (cells : List Bytes) (ls : List (Li
   after_value : Follows Csvj o ys text cells ls ps ss
   after_blank : Runs Csvj After o o ys (line text cells ∷ ls) (ps ∷ ss)
 
-blank_step : (k : Bool) (b : ℕ) → is_blank b ≡ true → after_cell Csvj k b ≡ To After (Between k)
+blank_step : (k : Bool) (b : ℕ) → is_blank b ≡ true → after_cell Csvj k b ≡ Ok (After, Between k)
 unfolding after_cell choose◌then◌else◌
 blank_step k b q = rw q
 
@@ -129,13 +129,13 @@ ws_wanted no_ws k = k
 ws_wanted (space w) k = between refl (ws_wanted w k)
 ws_wanted (tab w) k = between refl (ws_wanted w k)
 
-space_step : {f : FileState} → Opening f → file_step Csvj f 0x20 ≡ To Blanks (Between false)
+space_step : {f : FileState} → Opening f → file_step Csvj f 0x20 ≡ Ok (Blanks, Between false)
 unfolding file_step begin_file begin_record choose◌then◌else◌
 space_step at_top = refl
 space_step at_begin = refl
 space_step at_blanks = refl
 
-tab_step : {f : FileState} → Opening f → file_step Csvj f 0x09 ≡ To Blanks (Between false)
+tab_step : {f : FileState} → Opening f → file_step Csvj f 0x09 ≡ Ok (Blanks, Between false)
 unfolding file_step begin_file begin_record choose◌then◌else◌
 tab_step at_top = refl
 tab_step at_begin = refl
@@ -149,13 +149,13 @@ ws_opening no_ws k f o = k f o
 ws_opening (space w) k f o = between (space_step o) (ws_opening w k Blanks at_blanks)
 ws_opening (tab w) k f o = between (tab_step o) (ws_opening w k Blanks at_blanks)
 
-lf_step : {f : FileState} → Opening f → file_step Csvj f LF ≡ To Begin (Ends false)
+lf_step : {f : FileState} → Opening f → file_step Csvj f LF ≡ Ok (Begin, Ends false)
 unfolding file_step begin_file begin_record choose◌then◌else◌
 lf_step at_top = refl
 lf_step at_begin = refl
 lf_step at_blanks = refl
 
-cr_step : {f : FileState} → Opening f → file_step Csvj f CR ≡ To Cr (Tail false)
+cr_step : {f : FileState} → Opening f → file_step Csvj f CR ≡ Ok (Cr, Tail false)
 unfolding file_step begin_file begin_record choose◌then◌else◌
 cr_step at_top = refl
 cr_step at_begin = refl
@@ -327,19 +327,19 @@ abbrev K : Bytes → FileState → List (Line Bytes) → Type 0
 K = Then Csvj outcome
 
 module _ (bs : Bytes) where
-  blank_taken : (k : Bool) (b : ℕ) {ls : List (Line Bytes)} → is_blank b ≡ true → Takes (K bs) b (To After (Between k)) ls → AfterByte AfterThen (b ∷ bs) k ls
+  blank_taken : (k : Bool) (b : ℕ) {ls : List (Line Bytes)} → is_blank b ≡ true → Takes (K bs) b (Ok (After, Between k)) ls → AfterByte AfterThen (b ∷ bs) k ls
   blank_taken true b p (steps.between_closing m) = ends_now (blank_more b p m)
   blank_taken false b p (steps.between m) = ended_before (blank_more b p m)
 
-  comma_taken : (k : Bool) {ls : List (Line Bytes)} → Takes (K bs) 0x2C (To ExpectCell (Between k)) ls → AfterByte AfterThen (0x2C ∷ bs) k ls
+  comma_taken : (k : Bool) {ls : List (Line Bytes)} → Takes (K bs) 0x2C (Ok (ExpectCell, Between k)) ls → AfterByte AfterThen (0x2C ∷ bs) k ls
   comma_taken true (steps.between_closing m) = ends_now (comma_more m)
   comma_taken false (steps.between m) = ended_before (comma_more m)
 
-  lf_taken : (k : Bool) {b : ℕ} {ls : List (Line Bytes)} → Takes (K bs) b (To Begin (Ends k)) ls → AfterByte AfterThen (LF ∷ bs) k ls
+  lf_taken : (k : Bool) {b : ℕ} {ls : List (Line Bytes)} → Takes (K bs) b (Ok (Begin, Ends k)) ls → AfterByte AfterThen (LF ∷ bs) k ls
   lf_taken true (steps.ends_closing m) = ends_now (after_then (after_last no_ws) (terminator_then lf m))
   lf_taken false (steps.ends m) = ended_before (after_then (after_last no_ws) (terminator_then lf m))
 
-  cr_taken : (k : Bool) {b : ℕ} {ls : List (Line Bytes)} → Takes (K bs) b (To Cr (Tail k)) ls → AfterByte AfterThen (CR ∷ bs) k ls
+  cr_taken : (k : Bool) {b : ℕ} {ls : List (Line Bytes)} → Takes (K bs) b (Ok (Cr, Tail k)) ls → AfterByte AfterThen (CR ∷ bs) k ls
   cr_taken true (steps.tail_closing m) = ends_now (crlf_then m)
   cr_taken false (steps.tail m) = ended_before (crlf_then m)
 
@@ -353,16 +353,16 @@ module _ (bs : Bytes) where
       split P (b is CR) (λ p t. rw (is→eq b CR p) (cr_taken k t)) λ _ t. rejected t
 
 module _ (bs : Bytes) where
-  blank_opens : (b : ℕ) {ls : List (Line Bytes)} → is_blank b ≡ true → Takes (K bs) b (To Blanks (Between false)) ls → LineThen (b ∷ bs) ls
+  blank_opens : (b : ℕ) {ls : List (Line Bytes)} → is_blank b ≡ true → Takes (K bs) b (Ok (Blanks, Between false)) ls → LineThen (b ∷ bs) ls
   blank_opens b p (steps.between m) = go m
     where
       go : {xs text : Bytes} {cells : List Bytes} {ls : List (Line Bytes)} → LineThen xs (line text cells ∷ ls) → LineThen (b ∷ xs) (line (b ∷ text) cells ∷ ls)
       go (line_then x t) = line_then (blank_text b p x) t
 
-  lf_opens : {b : ℕ} {ls : List (Line Bytes)} → Takes (K bs) b (To Begin (Ends false)) ls → LineThen (LF ∷ bs) ls
+  lf_opens : {b : ℕ} {ls : List (Line Bytes)} → Takes (K bs) b (Ok (Begin, Ends false)) ls → LineThen (LF ∷ bs) ls
   lf_opens (steps.ends m) = line_then (empty no_ws no_ws) (terminator_then lf m)
 
-  cr_opens : {b : ℕ} {ls : List (Line Bytes)} → Takes (K bs) b (To Cr (Tail false)) ls → LineThen (CR ∷ bs) ls
+  cr_opens : {b : ℕ} {ls : List (Line Bytes)} → Takes (K bs) b (Ok (Cr, Tail false)) ls → LineThen (CR ∷ bs) ls
   cr_opens (steps.tail m) = go m
     where
       go :
@@ -378,7 +378,7 @@ module _ (bs : Bytes) where
       split P (b is LF) (λ p t. rw (is→eq b LF p) (lf_opens t)) λ _.
       split P (b is CR) (λ p t. rw (is→eq b CR p) (cr_opens t)) λ _ t. value_line (value_then (cell_byte Csvj outcome after_byte bs Fresh b ls t))
 
-  mark_opens : {b : ℕ} {ls : List (Line Bytes)} → Takes (K bs) b (To Bom1 Outside) ls → TopLines (0xEF ∷ bs) ls
+  mark_opens : {b : ℕ} {ls : List (Line Bytes)} → Takes (K bs) b (Ok (Bom1, Outside)) ls → TopLines (0xEF ∷ bs) ls
   mark_opens (steps.outside m) = go m
     where
       go : {xs : Bytes} {ls : List (Line Bytes)} → MarkRest DerivedLines xs ls → TopLines (0xEF ∷ xs) ls

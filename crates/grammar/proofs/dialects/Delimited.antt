@@ -4,7 +4,7 @@ use Prim.Native.Nat.{ℕ, suc}
 use mathlib.Core.Path.{◌≡◌, refl, ◌∙◌}
 use mathlib.Core.Bool.{Bool, true, false}
 use mathlib.Core.List.{List, [], ◌∷◌, ◌++◌, append_assoc, append-nil}
-use Rattle.grammar.specs.rfc.Types.{Dialect, CsvPlus, Fresh, FileState, Inside, Between, To}
+use Rattle.grammar.specs.rfc.Types.{Dialect, CsvPlus, Fresh, FileState, Inside, Between, Ok}
 use Rattle.model.specs.rules.Base.{Bytes, choose◌then◌else◌}
 use Rattle.model.specs.rules.Dialect.{delimiter_of}
 use Rattle.model.specs.rules.File.{after_cell}
@@ -31,7 +31,7 @@ cells_at o (more_cells {raw} m n) = cell_at o raw ∷ cells_at (suc (past raw o)
 
 -- ---- they are read
 
-delimiter_step : {d : Dialect} → Doubles d → after_cell d true (delimiter_of d) ≡ To (Inside Fresh) (Between true)
+delimiter_step : {d : Dialect} → Doubles d → after_cell d true (delimiter_of d) ≡ Ok (Inside Fresh, Between true)
 unfolding after_cell choose◌then◌else◌
 delimiter_step d_tdif = refl
 delimiter_step (d_plus {s}) = rw (same_byte (delimiter_of (CsvPlus s)))
@@ -80,7 +80,7 @@ module _ (d : Dialect) (Tail : Bytes → List (Line Bytes) → Type 0) where
   -- a delimiter after a cell
   pub delimiter_taken :
       (K : FileState → List (Line Bytes) → Type 0) {bs : Bytes} (k : Bool) {ls : List (Line Bytes)} →
-      ((ls : List (Line Bytes)) → K (Inside Fresh) ls → CellThen d After Fresh bs ls) → Takes K (delimiter_of d) (To (Inside Fresh) (Between k)) ls →
+      ((ls : List (Line Bytes)) → K (Inside Fresh) ls → CellThen d After Fresh bs ls) → Takes K (delimiter_of d) (Ok (Inside Fresh, Between k)) ls →
       AfterByte After (delimiter_of d ∷ bs) k ls
   delimiter_taken K true f (steps.between_closing m) = ends_now (at_delimiter (record_of (f _ m)))
   delimiter_taken K false f (steps.between m) = ended_before (at_delimiter (record_of (f _ m)))

@@ -4,7 +4,7 @@ use mathlib.Core.Path.{◌≡◌, refl, ap}
 use mathlib.Core.Bool.{true, false}
 use mathlib.Core.List.{List, [], ◌∷◌}
 use Rattle.grammar.specs.rfc.Types.{Dialect, Csvj, Tdif, CsvPlus, Cell, Stop, ByteFault, FileState, Inside, Outside, Passed, OfCell, Between}
-use Rattle.grammar.specs.rfc.Types.{Tail, Ends, Step, To, Reject, Ending, Clean, Final, Cut}
+use Rattle.grammar.specs.rfc.Types.{Tail, Ends, Step, Ok, Err, Ending, Clean, Final, Cut}
 use Rattle.model.specs.rules.Base.{Bytes}
 use Rattle.model.specs.rules.Cell.{cell_step, is_whole}
 use Rattle.model.specs.rules.File.{after_cell, in_cell, file_step, file_end}
@@ -21,25 +21,25 @@ pub data Finishes : Ending → List (Line Bytes) → Type 0 where
 
 -- the lines that a byte's step gives, where K f ls says that the bytes after it, read on from f, give ls
 pub data Takes (K : FileState → List (Line Bytes) → Type 0) (b : ℕ) : Step → List (Line Bytes) → Type 0 where
-  outside : {f : FileState} {ls : List (Line Bytes)} → K f ls → Takes K b (To f Outside) ls
-  passed : {f : FileState} {ls : List (Line Bytes)} → K f ls → Takes K b (To f Passed) ls
+  outside : {f : FileState} {ls : List (Line Bytes)} → K f ls → Takes K b (Ok (f, Outside)) ls
+  passed : {f : FileState} {ls : List (Line Bytes)} → K f ls → Takes K b (Ok (f, Passed)) ls
   of_cell :
       {f : FileState} {text raw : Bytes} {cells : List Bytes} {ls : List (Line Bytes)} → K f (line text (raw ∷ cells) ∷ ls) →
-      Takes K b (To f OfCell) (line (b ∷ text) ((b ∷ raw) ∷ cells) ∷ ls)
+      Takes K b (Ok (f, OfCell)) (line (b ∷ text) ((b ∷ raw) ∷ cells) ∷ ls)
   between :
       {f : FileState} {text : Bytes} {cells : List Bytes} {ls : List (Line Bytes)} → K f (line text cells ∷ ls) →
-      Takes K b (To f (Between false)) (line (b ∷ text) cells ∷ ls)
+      Takes K b (Ok (f, Between false)) (line (b ∷ text) cells ∷ ls)
   between_closing :
       {f : FileState} {text : Bytes} {cells : List Bytes} {ls : List (Line Bytes)} → K f (line text cells ∷ ls) →
-      Takes K b (To f (Between true)) (line (b ∷ text) ([] ∷ cells) ∷ ls)
+      Takes K b (Ok (f, Between true)) (line (b ∷ text) ([] ∷ cells) ∷ ls)
   tail :
       {f : FileState} {text : Bytes} {cells : List Bytes} {ls : List (Line Bytes)} → K f (line text cells ∷ ls) →
-      Takes K b (To f (Tail false)) (line text cells ∷ ls)
+      Takes K b (Ok (f, Tail false)) (line text cells ∷ ls)
   tail_closing :
       {f : FileState} {text : Bytes} {cells : List Bytes} {ls : List (Line Bytes)} → K f (line text cells ∷ ls) →
-      Takes K b (To f (Tail true)) (line text ([] ∷ cells) ∷ ls)
-  ends : {f : FileState} {ls : List (Line Bytes)} → K f ls → Takes K b (To f (Ends false)) (line [] [] ∷ ls)
-  ends_closing : {f : FileState} {ls : List (Line Bytes)} → K f ls → Takes K b (To f (Ends true)) (line [] ([] ∷ []) ∷ ls)
+      Takes K b (Ok (f, Tail true)) (line text ([] ∷ cells) ∷ ls)
+  ends : {f : FileState} {ls : List (Line Bytes)} → K f ls → Takes K b (Ok (f, Ends false)) (line [] [] ∷ ls)
+  ends_closing : {f : FileState} {ls : List (Line Bytes)} → K f ls → Takes K b (Ok (f, Ends true)) (line [] ([] ∷ []) ∷ ls)
 
 pub at_end : {d : Dialect} {f : FileState} {ls : List (Line Bytes)} → Reads d f [] ls → Finishes (file_end d f) ls
 at_end (reading.ends_clean e) = rw e clean
@@ -99,16 +99,16 @@ reads_once {d} (b ∷ bs) f ls ms r q =
 -- ---- a cell that stops at a byte which is read is whole
 
 data Closing : Step → Type 0 where
-  closing_between : {f : FileState} → Closing (To f (Between true))
-  closing_tail : {f : FileState} → Closing (To f (Tail true))
-  closing_ends : {f : FileState} → Closing (To f (Ends true))
+  closing_between : {f : FileState} → Closing (Ok (f, Between true))
+  closing_tail : {f : FileState} → Closing (Ok (f, Tail true))
+  closing_ends : {f : FileState} → Closing (Ok (f, Ends true))
 
 fits_whole : {d : Dialect} {c : Cell} {b : ℕ} {s : Step} → Closing s → Fits d c b s → is_whole d c ≡ true
 fits_whole closing_between (parts e w) = w
 fits_whole closing_tail (turns e w) = w
 fits_whole closing_ends (completes e w) = w
 
-pub rejected : {A : Type 0} {K : FileState → List (Line Bytes) → Type 0} {b : ℕ} {e : ByteFault} {ls : List (Line Bytes)} → Takes K b (Reject e) ls → A
+pub rejected : {A : Type 0} {K : FileState → List (Line Bytes) → Type 0} {b : ℕ} {e : ByteFault} {ls : List (Line Bytes)} → Takes K b (Err e) ls → A
 rejected = elim [ ]
 
 module _ (K : FileState → List (Line Bytes) → Type 0) where

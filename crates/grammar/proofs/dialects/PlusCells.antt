@@ -8,7 +8,7 @@ use mathlib.Core.List.{[], ◌∷◌, ◌++◌}
 use lib.Dec.{leb}
 use borrow.Author.Tests.{ne_eqb, eqb-false, leb-true, leb-false}
 use Rattle.grammar.specs.rfc.Types.{Text, Delimiter, Comma, Semicolon, Tab, Bar, Quote, Double, Single, Settings, CsvPlus, Char, Whole, Within}
-use Rattle.grammar.specs.rfc.Types.{On, Cell, Fresh, Quoted, Plain, More}
+use Rattle.grammar.specs.rfc.Types.{Some, Cell, Fresh, Quoted, Plain, More}
 use Rattle.model.specs.rules.Base.{Bytes, ◌is◌, choose◌then◌else◌}
 use Rattle.model.specs.rules.Dialect.{standard, delimiter_byte, quote_byte}
 use Rattle.model.specs.rules.Utf8.{char_step}
@@ -129,12 +129,12 @@ module _ (s : Settings) where
       ascii (range (omega arith) h) (eqb-false b (DQUOTE s) p) (eqb-false b (COMMA s) x) (eqb-false b CR y) (eqb-false b LF z)
 
   plain_char :
-      (c : Char) (b : ℕ) {bs : Bytes} → (b is DQUOTE s) ≡ false → is_separator b ≡ false → char_step Whole b ≡ On c → PlainRest c bs →
+      (c : Char) (b : ℕ) {bs : Bytes} → (b is DQUOTE s) ≡ false → is_separator b ≡ false → char_step Whole b ≡ Some c → PlainRest c bs →
       Non-escaped s (b ∷ bs)
   plain_char Whole b p q e (plain_rest finished m) = textdata (ascii_textdata b (whole_ascii b e) p q) m
   plain_char (Within i) b p q e (plain_rest f m) = textdata (utf8_data (long_data (long e f))) m
 
-  plain_inner : {i : types.Inner} {c : Char} {b : ℕ} {bs : Bytes} → char_step (Within i) b ≡ On c → PlainRest c bs → PlainRest (Within i) (b ∷ bs)
+  plain_inner : {i : types.Inner} {c : Char} {b : ℕ} {bs : Bytes} → char_step (Within i) b ≡ Some c → PlainRest c bs → PlainRest (Within i) (b ∷ bs)
   plain_inner e (plain_rest f m) = plain_rest (finishing e f) m
 
   plain_none : {e : Cell} (c : Char) → Plain c ≡ e → is_whole (CsvPlus s) e ≡ true → PlainRest c []

@@ -6,7 +6,7 @@ use mathlib.Core.Bool.{Bool, true, false}
 use mathlib.Core.List.{List, [], ◌∷◌, ◌++◌, map, append-nil}
 use borrow.Author.Tests.{eqb-false}
 use Rattle.grammar.specs.rfc.Types.{Delimiter, Comma, Semicolon, Tab, Bar, Settings, CsvPlus, Cell, Fresh}
-use Rattle.grammar.specs.rfc.Types.{FileState, Top, Begin, PlainBom1, PlainBom2, Inside, Cr, OfCell, Tail, Ends, Step, To, Final}
+use Rattle.grammar.specs.rfc.Types.{FileState, Top, Begin, PlainBom1, PlainBom2, Inside, Cr, OfCell, Tail, Ends, Step, Ok, Final}
 use Rattle.model.specs.rules.Base.{Bytes, ◌is◌, choose◌then◌else◌}
 use Rattle.model.specs.rules.Dialect.{delimiter_byte}
 use Rattle.model.specs.rules.Cell.{is_whole}
@@ -98,11 +98,11 @@ module _ (s : Settings) where
 
   -- ---- a derived file is read
 
-  after_lf : after_cell (CsvPlus s) true LF ≡ To Begin (Ends true)
+  after_lf : after_cell (CsvPlus s) true LF ≡ Ok (Begin, Ends true)
   unfolding after_cell choose◌then◌else◌
   after_lf = rw (separate s).0
 
-  after_cr : after_cell (CsvPlus s) true CR ≡ To Cr (Tail true)
+  after_cr : after_cell (CsvPlus s) true CR ≡ Ok (Cr, Tail true)
   unfolding after_cell choose◌then◌else◌
   after_cr = rw (separate s).1
 
@@ -253,11 +253,11 @@ module _ (s : Settings) where
   crlf_then (then_lf k) = at_tail (ending_then crlf k)
 
   module _ (bs : Bytes) where
-    lf_taken : (k : Bool) {b : ℕ} {ls : List (Line Bytes)} → Takes (K bs) b (To Begin (Ends k)) ls → AfterByte Further (LF ∷ bs) k ls
+    lf_taken : (k : Bool) {b : ℕ} {ls : List (Line Bytes)} → Takes (K bs) b (Ok (Begin, Ends k)) ls → AfterByte Further (LF ∷ bs) k ls
     lf_taken true (steps.ends_closing m) = ends_now (at_tail (ending_then lf m))
     lf_taken false (steps.ends m) = ended_before (at_tail (ending_then lf m))
 
-    cr_taken : (k : Bool) {b : ℕ} {ls : List (Line Bytes)} → Takes (K bs) b (To Cr (Tail k)) ls → AfterByte Further (CR ∷ bs) k ls
+    cr_taken : (k : Bool) {b : ℕ} {ls : List (Line Bytes)} → Takes (K bs) b (Ok (Cr, Tail k)) ls → AfterByte Further (CR ∷ bs) k ls
     cr_taken true (steps.tail_closing m) = ends_now (crlf_then m)
     cr_taken false (steps.tail m) = ended_before (crlf_then m)
 
@@ -274,7 +274,7 @@ module _ (s : Settings) where
     unfolding begin_record
     row_byte b ls t = field_rows some (cell_byte (CsvPlus s) coming after_byte bs Fresh b ls t)
 
-    ef_taken : {ls : List (Line Bytes)} → Takes (K bs) 0xEF (To PlainBom1 OfCell) ls → (¬ BeginsWithBom (0xEF ∷ bs)) × Rows (0xEF ∷ bs) ls
+    ef_taken : {ls : List (Line Bytes)} → Takes (K bs) 0xEF (Ok (PlainBom1, OfCell)) ls → (¬ BeginsWithBom (0xEF ∷ bs)) × Rows (0xEF ∷ bs) ls
     ef_taken (steps.of_cell k) = ((λ m. k.0 (begin_bom m).1), field_rows some (more_cell (bom_cell s) k.1))
 
     top_byte : (b : ℕ) (ls : List (Line Bytes)) → Takes (K bs) b (begin_file (CsvPlus s) b) ls → (¬ BeginsWithBom (b ∷ bs)) × Rows (b ∷ bs) ls

@@ -4,7 +4,7 @@ use Prim.Native.Nat.{ℕ}
 use mathlib.Core.Path.{◌≡◌, refl}
 use mathlib.Core.Bool.{true, false, ◌||◌}
 use Rattle.grammar.specs.rfc.Types.{Delimiter, Comma, Semicolon, Tab, Bar, Quote, Double, Single, Dialect, Csvj, Tdif, CsvPlus, Whole, Within}
-use Rattle.grammar.specs.rfc.Types.{Advance, On, Broken, HexLeft, Four, Three, Two, One}
+use Rattle.grammar.specs.rfc.Types.{Char, Option, Some, None, HexLeft, Four, Three, Two, One}
 use Rattle.grammar.specs.rfc.Types.{Numeral, Minus, Zero, Integer, Point, Fraction, E, ESign, Exponent, Word, T, Tr, Tru, F, Fa, Fal, Fals, N}
 use Rattle.grammar.specs.rfc.Types.{Nu, Nul, Backslash}
 use Rattle.grammar.specs.rfc.Types.{Cell, Fresh, Quoted, Closed, Escape, Hex, InNumber, InWord, Plain, Complete, CellStep, More, Stop, Refuse, ByteFault}
@@ -72,9 +72,9 @@ data Reaches : CellStep → Type 0 where
   stops_there : Reaches Stop
   refuses : {e : ByteFault} → Reaches (Refuse e)
 
-text_reaches : (o : Advance) → Reaches (text_byte Quoted o)
-text_reaches Broken = refuses
-text_reaches (On c) = proceeds_on tt
+text_reaches : (o : Option Char) → Reaches (text_byte Quoted o)
+text_reaches None = refuses
+text_reaches (Some c) = proceeds_on tt
 
 numeral_reaches : (n : Numeral) (b : ℕ) → Reaches (numeral_step n b)
 unfolding numeral_step

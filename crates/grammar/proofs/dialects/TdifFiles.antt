@@ -8,7 +8,7 @@ use mathlib.Core.Bool.{Bool, true, false}
 use mathlib.Core.List.{List, [], ◌∷◌, ◌++◌, map, append_assoc}
 use borrow.Author.Tests.{ne_eqb}
 use Rattle.grammar.specs.rfc.Types.{Tdif, Char, Whole, Cell, Fresh, More}
-use Rattle.grammar.specs.rfc.Types.{FileState, Top, Begin, Ended, Comment, Inside, Outside, Ends, Step, To, Clean}
+use Rattle.grammar.specs.rfc.Types.{FileState, Top, Begin, Ended, Comment, Inside, Outside, Ends, Step, Ok, Clean}
 use Rattle.model.specs.rules.Base.{Bytes, COMMA, ◌is◌, choose◌then◌else◌}
 use Rattle.model.specs.rules.Utf8.{char_step}
 use Rattle.model.specs.rules.Cell.{first_byte, cell_step, is_whole}
@@ -135,7 +135,7 @@ remark_reads (commentdata (above_cr {b} r) m) k = let h : 0x0E ≤ b = r.low in 
 remark_reads {o} {ys} (commentdata {cs} {bs} (comment_beyond u) m) k =
     rw (append_assoc cs bs ys) (long_reads (data_long u) (remark_reads m (rw (past_append cs bs o) at k)))
 
-hash_step : {f : FileState} → Opening f → file_step Tdif f 0x23 ≡ To (Comment Whole) Outside
+hash_step : {f : FileState} → Opening f → file_step Tdif f 0x23 ≡ Ok (Comment Whole, Outside)
 unfolding file_step begin_file begin_record choose◌then◌else◌
 hash_step at_top = refl
 hash_step at_begin = refl
@@ -204,11 +204,11 @@ comment_line : {xs : Bytes} {ls : List (Line Bytes)} → InComment DerivedLines 
 comment_line (in_comment {bs} finished m (break_then {es} {zs} b k)) = rw (← (append_assoc bs es zs)) (a_comment (comment hash m b) k)
 
 module _ (bs : Bytes) where
-  lf_taken : (k : Bool) {b : ℕ} {ls : List (Line Bytes)} → Takes (K bs) b (To Begin (Ends k)) ls → AfterByte Further (LF ∷ bs) k ls
+  lf_taken : (k : Bool) {b : ℕ} {ls : List (Line Bytes)} → Takes (K bs) b (Ok (Begin, Ends k)) ls → AfterByte Further (LF ∷ bs) k ls
   lf_taken true (steps.ends_closing m) = ends_now (at_tail (break_then lf m))
   lf_taken false (steps.ends m) = ended_before (at_tail (break_then lf m))
 
-  cr_taken : (k : Bool) {b : ℕ} {ls : List (Line Bytes)} → Takes (K bs) b (To Ended (Ends k)) ls → AfterByte Further (CR ∷ bs) k ls
+  cr_taken : (k : Bool) {b : ℕ} {ls : List (Line Bytes)} → Takes (K bs) b (Ok (Ended, Ends k)) ls → AfterByte Further (CR ∷ bs) k ls
   cr_taken true (steps.ends_closing m) = ends_now (at_tail (break_cr DerivedLines m))
   cr_taken false (steps.ends m) = ended_before (at_tail (break_cr DerivedLines m))
 
@@ -221,7 +221,7 @@ module _ (bs : Bytes) where
       split P (b is CR) (λ p t. rw (is→eq b CR p) (cr_taken k t)) λ _ t. rejected t
 
 module _ (bs : Bytes) where
-  hash_taken : {b : ℕ} {ls : List (Line Bytes)} → Takes (K bs) b (To (Comment Whole) Outside) ls → DerivedLines (0x23 ∷ bs) ls
+  hash_taken : {b : ℕ} {ls : List (Line Bytes)} → Takes (K bs) b (Ok (Comment Whole, Outside)) ls → DerivedLines (0x23 ∷ bs) ls
   hash_taken (steps.outside k) = comment_line k
 
   line_byte : (b : ℕ) (ls : List (Line Bytes)) → Takes (K bs) b (begin_record Tdif b) ls → DerivedLines (b ∷ bs) ls

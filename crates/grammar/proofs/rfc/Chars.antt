@@ -6,7 +6,7 @@ use native.Mathlib.Omega.{arith}
 use mathlib.Core.Path.{◌≡◌, refl, sym}
 use mathlib.Core.Bool.{Bool, true, false}
 use mathlib.Core.List.{List, [], ◌∷◌}
-use Rattle.grammar.specs.rfc.Types.{Lead, C2ToDf, E0, E1ToEc, Ed, EeToEf, F0, F1ToF3, F4, Inner, Second, LastTwo, Last, Char, Whole, Within, On}
+use Rattle.grammar.specs.rfc.Types.{Lead, C2ToDf, E0, E1ToEc, Ed, EeToEf, F0, F1ToF3, F4, Inner, Second, LastTwo, Last, Char, Whole, Within, Some}
 use Rattle.model.specs.rules.Base.{Bytes, within, choose◌then◌else◌}
 use Rattle.model.specs.rules.Utf8.{row_of, leads, lead_byte, after_second, inner_step, char_step}
 use Rattle.model.proofs.cell_laws.Utf8.{broken_on, same_on}
@@ -20,22 +20,22 @@ use Rattle.grammar.proofs.rfc.Ranges.{range, within_range, range_within, above_w
 -- bytes that finish a character
 pub data Finishes : Char → Bytes → Type 0 where
   finished : Finishes Whole []
-  finishing : {i : Inner} {c : Char} {b : ℕ} {bs : Bytes} → char_step (Within i) b ≡ On c → Finishes c bs → Finishes (Within i) (b ∷ bs)
+  finishing : {i : Inner} {c : Char} {b : ℕ} {bs : Bytes} → char_step (Within i) b ≡ Some c → Finishes c bs → Finishes (Within i) (b ∷ bs)
 
 -- a character of more than one byte, as the automaton reads it
 pub data Long : Bytes → Type 0 where
-  long : {i : Inner} {b : ℕ} {bs : Bytes} → char_step Whole b ≡ On (Within i) → Finishes (Within i) bs → Long (b ∷ bs)
+  long : {i : Inner} {b : ℕ} {bs : Bytes} → char_step Whole b ≡ Some (Within i) → Finishes (Within i) bs → Long (b ∷ bs)
 
 -- ---- a production is read
 
-row_first : (l : Lead) (b : ℕ) → b from (row_of l).lo to (row_of l).hi → char_step Whole b ≡ On (Within (Second l))
+row_first : (l : Lead) (b : ℕ) → b from (row_of l).lo to (row_of l).hi → char_step Whole b ≡ Some (Within (Second l))
 unfolding char_step lead_byte leads row_of choose◌then◌else◌
 row_first l b r = go l r
   where
     over : (lo hi n : ℕ) → n ≤ b → hi < n → within lo hi b ≡ false
     over lo hi n h k = above_within lo hi b (omega arith)
 
-    go : (l : Lead) → b from (row_of l).lo to (row_of l).hi → char_step Whole b ≡ On (Within (Second l))
+    go : (l : Lead) → b from (row_of l).lo to (row_of l).hi → char_step Whole b ≡ Some (Within (Second l))
     go C2ToDf r = rw (over 0x00 0x7F 0xC2 r.low (omega arith), range_within {b = b} {lo = 0xC2} {hi = 0xDF} r)
     go E0 r = rw (over 0x00 0x7F 0xE0 r.low (omega arith), over 0xC2 0xDF 0xE0 r.low (omega arith), range_within {b = b} {lo = 0xE0} {hi = 0xE0} r)
     go E1ToEc r =
@@ -96,15 +96,15 @@ row_first l b r = go l r
           range_within {b = b} {lo = 0xF4} {hi = 0xF4} r,
         )
 
-second_of : (l : Lead) (b : ℕ) → b from (row_of l).lo2 to (row_of l).hi2 → char_step (Within (Second l)) b ≡ On (after_second (row_of l).size)
+second_of : (l : Lead) (b : ℕ) → b from (row_of l).lo2 to (row_of l).hi2 → char_step (Within (Second l)) b ≡ Some (after_second (row_of l).size)
 unfolding char_step inner_step choose◌then◌else◌
 second_of l b r = rw (range_within r)
 
-tail_of : {b : ℕ} → UTF8-tail b → char_step (Within Last) b ≡ On Whole
+tail_of : {b : ℕ} → UTF8-tail b → char_step (Within Last) b ≡ Some Whole
 unfolding char_step inner_step choose◌then◌else◌
 tail_of (tail r) = rw (range_within r)
 
-tail_of_two : {b : ℕ} → UTF8-tail b → char_step (Within LastTwo) b ≡ On (Within Last)
+tail_of_two : {b : ℕ} → UTF8-tail b → char_step (Within LastTwo) b ≡ Some (Within Last)
 unfolding char_step inner_step choose◌then◌else◌
 tail_of_two (tail r) = rw (range_within r)
 
@@ -198,16 +198,16 @@ data FirstOf (b : ℕ) (c : Char) : Type 0 where
   of_ascii : b ≤ 0x7F → Whole ≡ c → FirstOf b c
   of_row : (l : Lead) → b from (row_of l).lo to (row_of l).hi → Within (Second l) ≡ c → FirstOf b c
 
-among_rows : (ls : List Lead) (b : ℕ) (c : Char) → lead_byte ls b ≡ On c → FirstOf b c
+among_rows : (ls : List Lead) (b : ℕ) (c : Char) → lead_byte ls b ≡ Some c → FirstOf b c
 unfolding lead_byte choose◌then◌else◌
 among_rows [] b c e = broken_on e
 among_rows (l ∷ ls) b c e = go (within (row_of l).lo (row_of l).hi b) refl (among_rows ls b c)
   where
-    go : (t : Bool) → within (row_of l).lo (row_of l).hi b ≡ t → (lead_byte ls b ≡ On c → FirstOf b c) → FirstOf b c
+    go : (t : Bool) → within (row_of l).lo (row_of l).hi b ≡ t → (lead_byte ls b ≡ Some c → FirstOf b c) → FirstOf b c
     go true p ih = of_row l (within_range (row_of l).lo (row_of l).hi b p) (same_on refl (rw p at e))
     go false p ih = ih (rw p at e)
 
-first_of : (b : ℕ) (c : Char) → char_step Whole b ≡ On c → FirstOf b c
+first_of : (b : ℕ) (c : Char) → char_step Whole b ≡ Some c → FirstOf b c
 unfolding char_step choose◌then◌else◌
 first_of b c e =
     split_on (within 0x00 0x7F b) (λ p. of_ascii (within_true 0x00 0x7F b p).1 (same_on refl (rw p at e))) λ p.
@@ -217,7 +217,7 @@ within_whole : {A : Type 0} {i : Inner} → Within i ≡ Whole → A
 within_whole e = let z : ◌≡◌ {A = ℕ} 0 1 = cc in absurd (omega arith)
 
 -- a first byte that is a whole character
-pub whole_ascii : (b : ℕ) → char_step Whole b ≡ On Whole → b ≤ 0x7F
+pub whole_ascii : (b : ℕ) → char_step Whole b ≡ Some Whole → b ≤ 0x7F
 whole_ascii b e = go (first_of b Whole e)
   where
     go : FirstOf b Whole → b ≤ 0x7F
@@ -247,7 +247,7 @@ lead_low F0 = omega arith
 lead_low F1ToF3 = omega arith
 lead_low F4 = omega arith
 
-pub first_high : (b : ℕ) (i : Inner) → char_step Whole b ≡ On (Within i) → 0x80 ≤ b
+pub first_high : (b : ℕ) (i : Inner) → char_step Whole b ≡ Some (Within i) → 0x80 ≤ b
 first_high b i e = go (first_of b (Within i) e)
   where
     go : FirstOf b (Within i) → 0x80 ≤ b

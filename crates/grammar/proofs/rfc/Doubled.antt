@@ -7,7 +7,7 @@ use mathlib.Core.Logic.{◌≢◌}
 use mathlib.Core.Bool.{Bool, true, false}
 use mathlib.Core.List.{[], ◌∷◌, ◌++◌, append_assoc}
 use borrow.Author.Tests.{ne_eqb, eqb-false}
-use Rattle.grammar.specs.rfc.Types.{Dialect, Inner, Char, Whole, Within, On, Cell, Quoted, Closed, More}
+use Rattle.grammar.specs.rfc.Types.{Dialect, Inner, Char, Whole, Within, Some, Cell, Quoted, Closed, More}
 use Rattle.model.specs.rules.Base.{Bytes, ◌is◌, choose◌then◌else◌}
 use Rattle.model.specs.rules.Dialect.{quote_of}
 use Rattle.model.specs.rules.Utf8.{char_step}
@@ -76,12 +76,12 @@ module _ {d : Dialect} (k : Doubles d) where
   open_more : {bs : Bytes} → Open (Quoted Whole) bs → Open Closed (quote_of d ∷ bs)
   open_more (open_quoted finished m) = open_again m
 
-  add_char : (c : Char) {b : ℕ} {bs : Bytes} → b ≢ quote_of d → char_step Whole b ≡ On c → Open (Quoted c) bs → Open (Quoted Whole) (b ∷ bs)
+  add_char : (c : Char) {b : ℕ} {bs : Bytes} → b ≢ quote_of d → char_step Whole b ≡ Some c → Open (Quoted c) bs → Open (Quoted Whole) (b ∷ bs)
   add_char Whole {b} n e (open_quoted finished m) = open_quoted finished (ascii_char (whole_ascii b e) n m)
   add_char (Within i) {b} n e (open_quoted {cs} {bs} f m) =
       rw (← (append_assoc (b ∷ cs) bs (quote_of d ∷ []))) (open_quoted finished (long_char (long e f) m))
 
-  add_inner : {i : Inner} {c : Char} {b : ℕ} {bs : Bytes} → char_step (Within i) b ≡ On c → Open (Quoted c) bs → Open (Quoted (Within i)) (b ∷ bs)
+  add_inner : {i : Inner} {c : Char} {b : ℕ} {bs : Bytes} → char_step (Within i) b ≡ Some c → Open (Quoted c) bs → Open (Quoted (Within i)) (b ∷ bs)
   add_inner e (open_quoted f m) = open_quoted (finishing e f) m
 
   open_none : {c : Cell} → InText c → is_whole d c ≡ true → Open c []

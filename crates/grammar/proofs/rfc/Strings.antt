@@ -8,7 +8,7 @@ use mathlib.Core.Bool.{true}
 use mathlib.Core.List.{List, [], ◌∷◌, ◌++◌, append_assoc}
 use lib.Dec.{leb, ltb}
 use borrow.Author.Tests.{ne_eqb, eqb-false, le-ltb, ltb-false, leb-true, leb-false}
-use Rattle.grammar.specs.rfc.Types.{Csvj, Inner, Char, Whole, Within, On, HexLeft, Four, Three, Two, One, Cell, Quoted, Escape, Hex, Complete}
+use Rattle.grammar.specs.rfc.Types.{Csvj, Inner, Char, Whole, Within, Some, HexLeft, Four, Three, Two, One, Cell, Quoted, Escape, Hex, Complete}
 use Rattle.grammar.specs.rfc.Types.{CellStep, More}
 use Rattle.model.specs.rules.Base.{Bytes, QUOTE, BACKSLASH, ◌is◌, within, choose◌then◌else◌}
 use Rattle.model.specs.rules.Utf8.{char_step}
@@ -116,12 +116,12 @@ ascii_unescaped b h k n m =
     let j : 0x5B < b = leb-false b 0x5B q in above_backslash (range (omega arith) k)
 
 text_char :
-    (c : Char) (b : ℕ) {bs : Bytes} → 0x20 ≤ b → b ≢ QUOTE → b ≢ BACKSLASH → char_step Whole b ≡ On c → StringRest (Quoted c) bs →
+    (c : Char) (b : ℕ) {bs : Bytes} → 0x20 ≤ b → b ≢ QUOTE → b ≢ BACKSLASH → char_step Whole b ≡ Some c → StringRest (Quoted c) bs →
     StringRest (Quoted Whole) (b ∷ bs)
 text_char Whole b h n m e (in_quoted finished k) = in_quoted finished (more_char (unescaped (ascii_unescaped b h (whole_ascii b e) n m)) k)
 text_char (Within i) b h n m e (in_quoted f k) = in_quoted finished (more_char (unescaped (above_ascii (long_data (long e f)))) k)
 
-inner_char : {i : Inner} {c : Char} {b : ℕ} {bs : Bytes} → char_step (Within i) b ≡ On c → StringRest (Quoted c) bs → StringRest (Quoted (Within i)) (b ∷ bs)
+inner_char : {i : Inner} {c : Char} {b : ℕ} {bs : Bytes} → char_step (Within i) b ≡ Some c → StringRest (Quoted c) bs → StringRest (Quoted (Within i)) (b ∷ bs)
 inner_char e (in_quoted f k) = in_quoted (finishing e f) k
 
 short_char : {b : ℕ} {i : Item} {bs : Bytes} → json.Char (BACKSLASH ∷ b ∷ []) i → StringRest (Quoted Whole) bs → StringRest Escape (b ∷ bs)

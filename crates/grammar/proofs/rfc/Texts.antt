@@ -5,7 +5,7 @@ use mathlib.Core.Path.{◌≡◌, refl, ◌∙◌}
 use mathlib.Core.Logic.{◌↔◌}
 use mathlib.Core.Bool.{true}
 use mathlib.Core.List.{[], ◌∷◌, ◌++◌}
-use Rattle.grammar.specs.rfc.Types.{Char, Whole, Within, On}
+use Rattle.grammar.specs.rfc.Types.{Char, Whole, Within, Some}
 use Rattle.model.specs.rules.Base.{Bytes}
 use Rattle.model.specs.rules.Utf8.{char_step, text_from}
 use Rattle.model.proofs.Tests.{impossible}
@@ -44,7 +44,7 @@ unfolding text_from
 text_none Whole e = text_rest finished no_octets
 text_none (Within i) e = impossible e
 
-text_first : (c c' : Char) (b : ℕ) {bs : Bytes} → char_step c b ≡ On c' → TextRest c' bs → TextRest c (b ∷ bs)
+text_first : (c c' : Char) (b : ℕ) {bs : Bytes} → char_step c b ≡ Some c' → TextRest c' bs → TextRest c (b ∷ bs)
 text_first Whole Whole b e (text_rest finished k) = text_rest finished (octets (char_1 (one (range (omega arith) (whole_ascii b e)))) k)
 text_first Whole (Within i) b e (text_rest f k) = text_rest finished (octets (data_char (long_data (long e f))) k)
 text_first (Within i) c' b e (text_rest f k) = text_rest (finishing e f) k

@@ -5,7 +5,7 @@ use mathlib.Core.Path.{◌≡◌, refl, ap, ◌∙◌}
 use mathlib.Core.Bool.{Bool, true, false}
 use mathlib.Core.List.{[], ◌∷◌, ◌++◌}
 use Rattle.grammar.specs.rfc.Types.{Kind, Dialect, Inner, Char, Whole, Within, Word, Cell, Fresh, InWord, Complete, More}
-use Rattle.model.specs.declared.CellCheck.TheVariants.{WholeCell}
+use Rattle.std.specs.Prelude.{Ok}
 use Rattle.model.specs.rules.Base.{Bytes, ◌is◌, choose◌then◌else◌}
 use Rattle.model.specs.rules.Utf8.{char_step}
 use Rattle.model.specs.rules.Cell.{text_byte, letter_of, after_letter, cell_step, is_whole}
@@ -35,11 +35,11 @@ run_spells : {d : Dialect} {c e : Cell} {bs : Bytes} → Runs d c bs e → is_wh
 run_spells here w = whole w
 run_spells (there e r) w = byte e (run_spells r w)
 
-pub spells_validated : {d : Dialect} {raw : Bytes} → Spells d Fresh raw → validate_cell d raw ≡ WholeCell
+pub spells_validated : {d : Dialect} {raw : Bytes} → Spells d Fresh raw → validate_cell d raw ≡ Ok tt
 unfolding validate_cell
 spells_validated k = let r = record_run k in runs_sound 0 r.runs r.whole
 
-pub validated_spells : (d : Dialect) (raw : Bytes) → validate_cell d raw ≡ WholeCell → Spells d Fresh raw
+pub validated_spells : (d : Dialect) (raw : Bytes) → validate_cell d raw ≡ Ok tt → Spells d Fresh raw
 unfolding validate_cell
 validated_spells d raw e = let r = sound_runs d Fresh 0 raw e in run_spells r.runs r.whole
 

@@ -15,8 +15,6 @@ pub use Rattle.model.specs.declared.Inner.{Inner}
 pub use Rattle.model.specs.declared.Inner.TheVariants.{Second, LastTwo, Last}
 pub use Rattle.model.specs.declared.Char.{Char}
 pub use Rattle.model.specs.declared.Char.TheVariants.{Whole, Within}
-pub use Rattle.model.specs.declared.Advance.{Advance}
-pub use Rattle.model.specs.declared.Advance.TheVariants.{On, Broken}
 pub use Rattle.model.specs.declared.HexLeft.{HexLeft}
 pub use Rattle.model.specs.declared.HexLeft.TheVariants.{Four, Three, Two, One}
 pub use Rattle.model.specs.declared.Numeral.{Numeral}
@@ -32,12 +30,10 @@ pub use Rattle.model.specs.declared.CellStep.TheVariants.{More, Stop, Refuse}
 pub use Rattle.model.specs.declared.FileState.{FileState}
 pub use Rattle.model.specs.declared.FileState.TheVariants.{Top, Begin, Ended, Bom1, Bom2, PlainBom1, PlainBom2, Comment, Blanks, ExpectCell, Inside, After, Cr}
 pub use Rattle.model.specs.declared.ByteRole.TheVariants.{Outside, Passed, OfCell, Between, Tail, Ends}
-pub use Rattle.model.specs.declared.Step.{Step}
-pub use Rattle.model.specs.declared.Step.TheVariants.{To, Reject}
 pub use Rattle.model.specs.declared.Ending.{Ending}
 pub use Rattle.model.specs.declared.Ending.TheVariants.{Clean, Final, Cut}
 pub use Rattle.model.specs.declared.Fault.{Fault}
 pub use Rattle.model.specs.declared.Fault.TheVariants.{NoRecord, Byte, CutShort, CellCount, RepeatedName, HeaderKind, FileTooLong, RecordTooLong}
 pub use Rattle.model.specs.declared.Fault.TheVariants.{TooManyColumns, NoCells, LacksKind, LoneSurrogate, Clash, TextTooLong, OutputTooLong}
-pub use Rattle.model.specs.declared.CheckResult.{CheckResult}
-pub use Rattle.model.specs.declared.CheckResult.TheVariants.{Sound, Faulty}
+pub use Rattle.std.specs.Prelude.{Option, None, Some, Ok, Err}
+pub use Rattle.model.specs.rules.Types.{Step, CheckResult}

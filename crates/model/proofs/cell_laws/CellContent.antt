@@ -4,7 +4,7 @@ use native.Mathlib.Omega.{arith}
 use mathlib.Core.Path.{◌≡◌, refl, sym, ◌∙◌}
 use mathlib.Core.Bool.{Bool, true, false, ◌||◌}
 use mathlib.Core.List.{[], ◌∷◌}
-use Rattle.model.specs.rules.Types.{Settings, Dialect, Csvj, Tdif, CsvPlus, Inner, Char, Whole, Within, Advance, On, Broken, ByteFault}
+use Rattle.model.specs.rules.Types.{Settings, Dialect, Csvj, Tdif, CsvPlus, Inner, Char, Whole, Within, Option, Some, None, ByteFault}
 use Rattle.model.specs.rules.Types.{Numeral, Minus, Zero, Integer, Point, Fraction, E, ESign, Exponent, Cell, Fresh, Quoted, Closed, InNumber}
 use Rattle.model.specs.rules.Types.{Plain, CellStep, More, Stop, Refuse}
 use Rattle.model.specs.rules.Base.{Bytes, QUOTE, CR, LF, ◌is◌, choose◌then◌else◌}
@@ -30,15 +30,15 @@ same_more e = cc
 -- a byte of text continues a character
 pub record CharOn (f : Char → Cell) (c : Char) (b : ℕ) (c' : Cell) : Type 0 where
   pub char : Char
-  pub step : char_step c b ≡ On char
+  pub step : char_step c b ≡ Some char
   pub cell : f char ≡ c'
 
 pub char_on : (f : Char → Cell) (c : Char) (b : ℕ) (c' : Cell) → text_byte f (char_step c b) ≡ More c' → CharOn f c b c'
 char_on f c b c' e = go (char_step c b) refl e
   where
-    go : (o : Advance) → char_step c b ≡ o → text_byte f o ≡ More c' → CharOn f c b c'
-    go Broken p k = no_more k
-    go (On x) p k = record { char = x; step = p; cell = cc }
+    go : (o : Option Char) → char_step c b ≡ o → text_byte f o ≡ More c' → CharOn f c b c'
+    go None p k = no_more k
+    go (Some x) p k = record { char = x; step = p; cell = cc }
 
 -- ---- quotes doubled
 
@@ -93,7 +93,7 @@ module _ (d : Dialect) (k : Doubles d) where
       go : (t : Bool) → (b is quote_of d) ≡ t → text_from Whole (undouble (quote_of d) true (b ∷ bs)) ≡ true
       go true p =
           let q : Quoted Whole ≡ c' = same_more (rw p at e) in
-          let z : char_step Whole b ≡ On Whole = ascii_whole b (is_ascii b (quote_of d) (quote_ascii d) p) in
+          let z : char_step Whole b ≡ Some Whole = ascii_whole b (is_ascii b (quote_of d) (quote_ascii d) p) in
           rw (p, undouble) (text_more Whole Whole b (undouble (quote_of d) false bs) z ∙ un_text (rw (← q) at u))
       go false p = no_stop (rw p at e)
 

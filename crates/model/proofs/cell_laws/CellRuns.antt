@@ -7,7 +7,7 @@ use mathlib.Core.List.{List, [], ◌∷◌, ◌++◌}
 use Rattle.model.specs.rules.Types.{Delimiter, Comma, Semicolon, Tab, Bar, Quote, Double, Single, Settings, Dialect, CsvPlus, EeToEf, Second}
 use Rattle.model.specs.rules.Types.{Last, Within}
 use Rattle.model.specs.rules.Types.{Cell, Fresh, Plain, CellStep, More, Stop, Refuse}
-use Rattle.model.specs.rules.Types.{Fault, CellCheck, WholeCell, Unsound}
+use Rattle.model.specs.rules.Types.{Fault, CellCheck, Ok, Err}
 use Rattle.model.specs.rules.Types as types
 use Rattle.model.specs.rules.Base.{Bytes, choose◌then◌else◌}
 use Rattle.model.specs.rules.Utf8.{row_of, leads, lead_byte, inner_step, char_step}
@@ -15,6 +15,8 @@ use Rattle.model.specs.rules.Cell.{first_byte, cell_step, is_whole}
 pub use Rattle.model.specs.rules.Cell.{Runs, here, there}
 use Rattle.model.specs.rules.Decode.{validate_from}
 use Rattle.model.specs.laws.Laws.{All, all_none, all_cons}
+use Rattle.model.specs.rules.Types.{cell_fault}
+use Rattle.model.proofs.file_laws.CheckResults.{fault_sound}
 
 -- ---- a cell that begins like the byte order mark
 
@@ -43,7 +45,7 @@ pub snoc : {d : Dialect} {c c' c'' : Cell} {bs : Bytes} (b : ℕ) → Runs d c b
 snoc b here e = there e here
 snoc b (there f r) e = there f (snoc b r e)
 
-pub runs_sound : {d : Dialect} {c c' : Cell} {bs : Bytes} (i : ℕ) → Runs d c bs c' → is_whole d c' ≡ true → validate_from d c i bs ≡ WholeCell
+pub runs_sound : {d : Dialect} {c c' : Cell} {bs : Bytes} (i : ℕ) → Runs d c bs c' → is_whole d c' ≡ true → validate_from d c i bs ≡ Ok tt
 unfolding validate_from choose◌then◌else◌
 runs_sound i here w = rw (w, validate_from)
 runs_sound i (there e r) w = rw (e, validate_from) (runs_sound (suc i) r w)
@@ -54,26 +56,25 @@ pub record WholeRun (d : Dialect) (c : Cell) (bs : Bytes) : Type 0 where
   pub runs : Runs d c bs end
   pub whole : is_whole d end ≡ true
 
-unsound_sound : {A : Type 0} {e : Fault} {i : ℕ} → Unsound e i ≡ WholeCell → A
-unsound_sound x = let z : ◌≡◌ {A = ℕ} 0 1 = cc in absurd (omega arith)
-
-pub sound_runs : (d : Dialect) (c : Cell) (i : ℕ) (bs : Bytes) → validate_from d c i bs ≡ WholeCell → WholeRun d c bs
+pub sound_runs : (d : Dialect) (c : Cell) (i : ℕ) (bs : Bytes) → validate_from d c i bs ≡ Ok tt → WholeRun d c bs
 unfolding validate_from choose◌then◌else◌
 sound_runs d c i [] h = go (is_whole d c) refl h
   where
-    go : (t : Bool) → is_whole d c ≡ t → (choose t then WholeCell else Unsound types.CutShort i) ≡ WholeCell → WholeRun d c []
+    go :
+        (t : Bool) → is_whole d c ≡ t →
+        ◌≡◌ {A = CellCheck} (choose t then Ok tt else Err (cell_fault types.CutShort i)) (Ok tt) → WholeRun d c []
     go true e k = record { end = c; runs = here; whole = e }
-    go false e k = unsound_sound k
+    go false e k = fault_sound k
 sound_runs d c i (b ∷ bs) h = go (cell_step d c b) refl h (λ c'. sound_runs d c' (suc i) bs)
   where
     go :
         (a : CellStep) → cell_step d c b ≡ a →
         (elim a as (λ _. CellCheck)
-        [ More c' ↦ validate_from d c' (suc i) bs | Stop ↦ Unsound (types.Byte types.Syntax) i | Refuse x ↦ Unsound (types.Byte x) i ])
-        ≡ WholeCell → ((c' : Cell) → validate_from d c' (suc i) bs ≡ WholeCell → WholeRun d c' bs) → WholeRun d c (b ∷ bs)
+        [ More c' ↦ validate_from d c' (suc i) bs | Stop ↦ Err (cell_fault (types.Byte types.Syntax) i) | Refuse x ↦ Err (cell_fault (types.Byte x) i) ])
+        ≡ Ok tt → ((c' : Cell) → validate_from d c' (suc i) bs ≡ Ok tt → WholeRun d c' bs) → WholeRun d c (b ∷ bs)
     go (More c') e k ih = let w = ih c' k in record { end = w.end; runs = there e w.runs; whole = w.whole }
-    go Stop e k ih = unsound_sound k
-    go (Refuse x) e k ih = unsound_sound k
+    go Stop e k ih = fault_sound k
+    go (Refuse x) e k ih = fault_sound k
 
 -- ---- lists
 

@@ -7,7 +7,7 @@ use mathlib.Core.Path.{◌≡◌, refl, ap}
 use mathlib.Core.Bool.{Bool, true, false, ◌||◌}
 use lib.Dec.{ltb}
 use borrow.Author.Tests.{ltb-true}
-use Rattle.model.specs.rules.Types.{Dialect, Csvj, Tdif, CsvPlus, Char, Whole, Within, Advance, On, Broken}
+use Rattle.model.specs.rules.Types.{Dialect, Csvj, Tdif, CsvPlus, Char, Whole, Within, Option, Some, None}
 use Rattle.model.specs.rules.Types.{Numeral, Minus, Zero, Integer, Point, Fraction, E, ESign, Exponent, Cell, Fresh, Quoted, Closed, Escape}
 use Rattle.model.specs.rules.Types.{Hex, InNumber, InWord, Plain, Complete, CellStep, More, Stop, Refuse, Encoding, Syntax}
 use Rattle.model.specs.rules.Base.{LF, CR, QUOTE, BACKSLASH, ◌is◌}
@@ -28,9 +28,9 @@ pub data CellTransition (d : Dialect) (c : Cell) : (breaks : Bool) → CellStep 
   takes_two : CellTransition d c true (Refuse Encoding)
   takes_three : CellTransition d c false (Refuse Syntax)
 
-text_takes : {d : Dialect} {c : Cell} (f : Char → Cell) (o : Advance) → CellTransition d c (is_broken o) (text_byte f o)
-text_takes f (On c) = takes_more
-text_takes f Broken = takes_two
+text_takes : {d : Dialect} {c : Cell} (f : Char → Cell) (o : Option Char) → CellTransition d c (is_broken o) (text_byte f o)
+text_takes f (Some c) = takes_more
+text_takes f None = takes_two
 
 -- the same of a byte that the table allows
 ascii_takes : {d : Dialect} {c : Cell} (b : ℕ) {a : CellStep} → b ≤ 0x7F → CellTransition d c false a → CellTransition d c (is_broken (char_step Whole b)) a

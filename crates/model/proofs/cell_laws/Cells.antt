@@ -6,7 +6,7 @@ use mathlib.Core.Bool.{Bool, true, false}
 use Rattle.model.specs.rules.Types.{Dialect, Csvj, Tdif, CsvPlus}
 use Rattle.model.specs.rules.Types.{Cell, Fresh, More, ByteFault}
 use Rattle.model.specs.rules.Types.{FileState, Top, Begin, Ended, Bom1, Bom2, PlainBom1, PlainBom2, Comment, Blanks, ExpectCell, Inside, After}
-use Rattle.model.specs.rules.Types.{Cr, Outside, Passed, OfCell, Between, Tail, Ends, Step, To, Reject, Ending, Clean, Final, Cut}
+use Rattle.model.specs.rules.Types.{Cr, Outside, Passed, OfCell, Between, Tail, Ends, Step, Ok, Err, Ending, Clean, Final, Cut}
 use Rattle.model.specs.rules.Cell.{cell_step, is_whole}
 use Rattle.model.specs.rules.File.{file_step, file_end, last_cell}
 unfoldable pub use Rattle.model.specs.rules.File.{cell_at}
@@ -22,13 +22,13 @@ Closes d c false = Unit {0}
 
 -- a byte of a cell continues the current cell; any other leaves none, and closes only a whole one
 pub data Fits (d : Dialect) (c : Cell) (b : ℕ) : Step → Type 0 where
-  rejects : {e : ByteFault} → Fits d c b (Reject e)
-  leaves : {f : FileState} → cell_at f ≡ Fresh → Fits d c b (To f Outside)
-  passes : {f : FileState} → cell_at f ≡ Fresh → Fits d c b (To f Passed)
-  adds : {f : FileState} → cell_step d c b ≡ More (cell_at f) → Fits d c b (To f OfCell)
-  parts : {f : FileState} {k : Bool} → cell_at f ≡ Fresh → Closes d c k → Fits d c b (To f (Between k))
-  turns : {f : FileState} {k : Bool} → cell_at f ≡ Fresh → Closes d c k → Fits d c b (To f (Tail k))
-  completes : {f : FileState} {k : Bool} → cell_at f ≡ Fresh → Closes d c k → Fits d c b (To f (Ends k))
+  rejects : {e : ByteFault} → Fits d c b (Err e)
+  leaves : {f : FileState} → cell_at f ≡ Fresh → Fits d c b (Ok (f, Outside))
+  passes : {f : FileState} → cell_at f ≡ Fresh → Fits d c b (Ok (f, Passed))
+  adds : {f : FileState} → cell_step d c b ≡ More (cell_at f) → Fits d c b (Ok (f, OfCell))
+  parts : {f : FileState} {k : Bool} → cell_at f ≡ Fresh → Closes d c k → Fits d c b (Ok (f, Between k))
+  turns : {f : FileState} {k : Bool} → cell_at f ≡ Fresh → Closes d c k → Fits d c b (Ok (f, Tail k))
+  completes : {f : FileState} {k : Bool} → cell_at f ≡ Fresh → Closes d c k → Fits d c b (Ok (f, Ends k))
 
 holds_cell : {f : FileState} {c : Cell} → Holds f c → cell_at f ≡ c
 unfolding cell_at

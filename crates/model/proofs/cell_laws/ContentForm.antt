@@ -3,7 +3,7 @@ use Prim.Native.Nat.{ℕ}
 use mathlib.Core.Path.{◌≡◌, refl, ◌∙◌}
 use mathlib.Core.Bool.{Bool, true, false, ◌||◌}
 use mathlib.Core.List.{[], ◌∷◌}
-use Rattle.model.specs.rules.Types.{Dialect, Csvj, Tdif, CsvPlus, Whole, Cell, Fresh, Quoted, More, WholeCell}
+use Rattle.model.specs.rules.Types.{Dialect, Csvj, Tdif, CsvPlus, Whole, Cell, Fresh, Quoted, More, Ok}
 use Rattle.model.specs.rules.Base.{Bytes, QUOTE, ◌is◌, choose◌then◌else◌}
 use Rattle.model.specs.rules.Utf8.{wide_from, is_content}
 use Rattle.model.specs.rules.Cell.{first_byte, cell_step, is_whole, is_digit}
@@ -40,7 +40,7 @@ csvj_content (b ∷ bs) w = first w.runs w.whole
     first : {e : Cell} → Runs Csvj Fresh (b ∷ bs) e → is_whole Csvj e ≡ true → is_content (content_of Csvj (b ∷ bs)) ≡ true
     first (there {c'} x r) w = csvj_first b bs c' x r w
 
-pub content_form : (d : Dialect) (raw : Bytes) → validate_cell d raw ≡ WholeCell → is_content (content_of d raw) ≡ true
+pub content_form : (d : Dialect) (raw : Bytes) → validate_cell d raw ≡ Ok tt → is_content (content_of d raw) ≡ true
 unfolding validate_cell
 content_form Csvj raw j = csvj_content raw (sound_runs Csvj Fresh 0 raw j)
 content_form Tdif raw j = text_content (content_of Tdif raw) (tdif_content raw (sound_runs Tdif Fresh 0 raw j))

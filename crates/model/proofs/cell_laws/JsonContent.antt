@@ -5,12 +5,12 @@ use Prim.Native.Nat.{ℕ, ◌+◌, ◌*◌, ◌/◌, ◌%◌, ◌≤◌, ◌<◌
 use native.Mathlib.Omega.{arith}
 use mathlib.Core.Path.{◌≡◌, refl, sym, ap, ◌∙◌}
 use mathlib.Core.Bool.{Bool, true, false, ◌&&◌}
-use mathlib.Core.Option.{some}
+use Rattle.std.specs.Prelude.{Some}
 use mathlib.Core.List.{List, [], ◌∷◌, ◌++◌, append-nil}
 use lib.Dec.{leb, ltb}
 use borrow.Author.Tests.{leb-true, leb-false, le-leb, lt-leb, ne_eqb}
 use Rattle.model.specs.rules.Types.{Csvj, Lead, C2ToDf, E0, E1ToEc, Ed, EeToEf, F0, F1ToF3, F4, Inner, Second, LastTwo, Last, Char, Whole}
-use Rattle.model.specs.rules.Types.{Within, On, HexLeft, Four, Three, Two, One}
+use Rattle.model.specs.rules.Types.{Within, HexLeft, Four, Three, Two, One}
 use Rattle.model.specs.rules.Types.{Cell, Quoted, Escape, Hex, Complete, More}
 use Rattle.model.specs.rules.Base.{Bytes, QUOTE, BACKSLASH, ◌is◌, choose◌then◌else◌}
 use Rattle.model.specs.rules.Utf8.{row_of, leads, lead_byte, inner_step, char_step, Wide, gap, ed, lone, inner, wide_step, wide_from, is_content, pack}
@@ -26,7 +26,7 @@ use Rattle.model.proofs.cell_laws.CellContent.{CharOn, char_on, same_more, no_mo
 
 data CharRuns : Char → Bytes → Char → Type 0 where
   c_here : {c : Char} → CharRuns c [] c
-  c_there : {c c' c'' : Char} {b : ℕ} {bs : Bytes} → char_step c b ≡ On c' → CharRuns c' bs c'' → CharRuns c (b ∷ bs) c''
+  c_there : {c c' c'' : Char} {b : ℕ} {bs : Bytes} → char_step c b ≡ Some c' → CharRuns c' bs c'' → CharRuns c (b ∷ bs) c''
 
 -- these bytes end between characters, not after a high surrogate
 record ToGap (w : Wide) (bs : Bytes) : Type 0 where
@@ -46,7 +46,7 @@ near_runs {w} (c_there {c'} {b} {bs} e r) n k =
     let i = near_runs r s.near s.calm in
     record { run = λ xs. wide_on w s.wide b (bs ++ xs) s.step ∙ i.run xs }
 
-char_runs : (h : Bool) (b : ℕ) (c : Char) (bs : Bytes) → char_step Whole b ≡ On c → CharRuns c bs Whole → ToGap (gap h) (b ∷ bs)
+char_runs : (h : Bool) (b : ℕ) (c : Char) (bs : Bytes) → char_step Whole b ≡ Some c → CharRuns c bs Whole → ToGap (gap h) (b ∷ bs)
 char_runs h b c bs e r =
     let s = near_step b c near_gap e in
     let i = near_runs r s.near s.calm in
@@ -54,11 +54,11 @@ char_runs h b c bs e r =
 
 -- the rows of the table that have more than one first byte
 module _ (b : ℕ) where
-  row_c2 : 0xC2 ≤ b → b ≤ 0xDF → char_step Whole b ≡ On (Within (Second C2ToDf))
+  row_c2 : 0xC2 ≤ b → b ≤ 0xDF → char_step Whole b ≡ Some (Within (Second C2ToDf))
   unfolding char_step lead_byte leads row_of choose◌then◌else◌
   row_c2 l h = rw (le-leb 0 b (omega arith), lt-leb b 0x7F (omega arith), le-leb 0xC2 b l, le-leb b 0xDF h)
 
-  row_e1 : 0xE1 ≤ b → b ≤ 0xEC → char_step Whole b ≡ On (Within (Second E1ToEc))
+  row_e1 : 0xE1 ≤ b → b ≤ 0xEC → char_step Whole b ≡ Some (Within (Second E1ToEc))
   unfolding char_step lead_byte leads row_of choose◌then◌else◌
   row_e1 l h =
       rw (
@@ -72,7 +72,7 @@ module _ (b : ℕ) where
         le-leb b 0xEC h,
       )
 
-  row_ee : 0xEE ≤ b → b ≤ 0xEF → char_step Whole b ≡ On (Within (Second EeToEf))
+  row_ee : 0xEE ≤ b → b ≤ 0xEF → char_step Whole b ≡ Some (Within (Second EeToEf))
   unfolding char_step lead_byte leads row_of choose◌then◌else◌
   row_ee l h =
       rw (
@@ -90,7 +90,7 @@ module _ (b : ℕ) where
         le-leb b 0xEF h,
       )
 
-  row_f1 : 0xF1 ≤ b → b ≤ 0xF3 → char_step Whole b ≡ On (Within (Second F1ToF3))
+  row_f1 : 0xF1 ≤ b → b ≤ 0xF3 → char_step Whole b ≡ Some (Within (Second F1ToF3))
   unfolding char_step lead_byte leads row_of choose◌then◌else◌
   row_f1 l h =
       rw (
@@ -113,62 +113,62 @@ module _ (b : ℕ) where
       )
 
   -- a later byte
-  last : 0x80 ≤ b → b ≤ 0xBF → char_step (Within Last) b ≡ On Whole
+  last : 0x80 ≤ b → b ≤ 0xBF → char_step (Within Last) b ≡ Some Whole
   unfolding char_step inner_step choose◌then◌else◌
   last l h = rw (le-leb 0x80 b l, le-leb b 0xBF h)
 
-  last_two : 0x80 ≤ b → b ≤ 0xBF → char_step (Within LastTwo) b ≡ On (Within Last)
+  last_two : 0x80 ≤ b → b ≤ 0xBF → char_step (Within LastTwo) b ≡ Some (Within Last)
   unfolding char_step inner_step choose◌then◌else◌
   last_two l h = rw (le-leb 0x80 b l, le-leb b 0xBF h)
 
   -- a second byte
-  second_c2 : 0x80 ≤ b → b ≤ 0xBF → char_step (Within (Second C2ToDf)) b ≡ On Whole
+  second_c2 : 0x80 ≤ b → b ≤ 0xBF → char_step (Within (Second C2ToDf)) b ≡ Some Whole
   unfolding char_step inner_step row_of choose◌then◌else◌
   second_c2 l h = rw (le-leb 0x80 b l, le-leb b 0xBF h)
 
-  second_e0 : 0xA0 ≤ b → b ≤ 0xBF → char_step (Within (Second E0)) b ≡ On (Within Last)
+  second_e0 : 0xA0 ≤ b → b ≤ 0xBF → char_step (Within (Second E0)) b ≡ Some (Within Last)
   unfolding char_step inner_step row_of choose◌then◌else◌
   second_e0 l h = rw (le-leb 0xA0 b l, le-leb b 0xBF h)
 
-  second_e1 : 0x80 ≤ b → b ≤ 0xBF → char_step (Within (Second E1ToEc)) b ≡ On (Within Last)
+  second_e1 : 0x80 ≤ b → b ≤ 0xBF → char_step (Within (Second E1ToEc)) b ≡ Some (Within Last)
   unfolding char_step inner_step row_of choose◌then◌else◌
   second_e1 l h = rw (le-leb 0x80 b l, le-leb b 0xBF h)
 
-  second_ed : 0x80 ≤ b → b ≤ 0x9F → char_step (Within (Second Ed)) b ≡ On (Within Last)
+  second_ed : 0x80 ≤ b → b ≤ 0x9F → char_step (Within (Second Ed)) b ≡ Some (Within Last)
   unfolding char_step inner_step row_of choose◌then◌else◌
   second_ed l h = rw (le-leb 0x80 b l, le-leb b 0x9F h)
 
-  second_ee : 0x80 ≤ b → b ≤ 0xBF → char_step (Within (Second EeToEf)) b ≡ On (Within Last)
+  second_ee : 0x80 ≤ b → b ≤ 0xBF → char_step (Within (Second EeToEf)) b ≡ Some (Within Last)
   unfolding char_step inner_step row_of choose◌then◌else◌
   second_ee l h = rw (le-leb 0x80 b l, le-leb b 0xBF h)
 
-  second_f0 : 0x90 ≤ b → b ≤ 0xBF → char_step (Within (Second F0)) b ≡ On (Within LastTwo)
+  second_f0 : 0x90 ≤ b → b ≤ 0xBF → char_step (Within (Second F0)) b ≡ Some (Within LastTwo)
   unfolding char_step inner_step row_of choose◌then◌else◌
   second_f0 l h = rw (le-leb 0x90 b l, le-leb b 0xBF h)
 
-  second_f1 : 0x80 ≤ b → b ≤ 0xBF → char_step (Within (Second F1ToF3)) b ≡ On (Within LastTwo)
+  second_f1 : 0x80 ≤ b → b ≤ 0xBF → char_step (Within (Second F1ToF3)) b ≡ Some (Within LastTwo)
   unfolding char_step inner_step row_of choose◌then◌else◌
   second_f1 l h = rw (le-leb 0x80 b l, le-leb b 0xBF h)
 
-  second_f4 : 0x80 ≤ b → b ≤ 0x8F → char_step (Within (Second F4)) b ≡ On (Within LastTwo)
+  second_f4 : 0x80 ≤ b → b ≤ 0x8F → char_step (Within (Second F4)) b ≡ Some (Within LastTwo)
   unfolding char_step inner_step row_of choose◌then◌else◌
   second_f4 l h = rw (le-leb 0x80 b l, le-leb b 0x8F h)
 
 -- the rows of one first byte
 row_of_one :
-    (char_step Whole 0xE0 ≡ On (Within (Second E0))) × (char_step Whole 0xED ≡ On (Within (Second Ed)))
-    × (char_step Whole 0xF0 ≡ On (Within (Second F0))) × (char_step Whole 0xF4 ≡ On (Within (Second F4)))
+    (char_step Whole 0xE0 ≡ Some (Within (Second E0))) × (char_step Whole 0xED ≡ Some (Within (Second Ed)))
+    × (char_step Whole 0xF0 ≡ Some (Within (Second F0))) × (char_step Whole 0xF4 ≡ Some (Within (Second F4)))
 unfolding char_step lead_byte leads row_of choose◌then◌else◌
 row_of_one = (refl, refl, refl, refl)
 
 -- three bytes and four bytes of a row
 three :
-    (h : Bool) (l : Lead) (a b c : ℕ) → char_step Whole a ≡ On (Within (Second l)) → char_step (Within (Second l)) b ≡ On (Within Last) →
+    (h : Bool) (l : Lead) (a b c : ℕ) → char_step Whole a ≡ Some (Within (Second l)) → char_step (Within (Second l)) b ≡ Some (Within Last) →
     0x80 ≤ c → c ≤ 0xBF → ToGap (gap h) (a ∷ b ∷ c ∷ [])
 three h l a b c e f p q = char_runs h a (Within (Second l)) (b ∷ c ∷ []) e (c_there f (c_there (last c p q) c_here))
 
 four :
-    (h : Bool) (l : Lead) (a b c d : ℕ) → char_step Whole a ≡ On (Within (Second l)) → char_step (Within (Second l)) b ≡ On (Within LastTwo) →
+    (h : Bool) (l : Lead) (a b c d : ℕ) → char_step Whole a ≡ Some (Within (Second l)) → char_step (Within (Second l)) b ≡ Some (Within LastTwo) →
     0x80 ≤ c → c ≤ 0xBF → 0x80 ≤ d → d ≤ 0xBF → ToGap (gap h) (a ∷ b ∷ c ∷ d ∷ [])
 four h l a b c d e f p q r s =
     char_runs h a (Within (Second l)) (b ∷ c ∷ d ∷ []) e (c_there f (c_there (last_two c p q) (c_there (last d r s) c_here)))
@@ -207,19 +207,19 @@ module _ (h : Bool) (u : ℕ) (l : 0x7FF < u) (m : u ≤ 0xFFFF) where
   above_surrogates n = three h EeToEf B1 B2 B3 (row_ee B1 (omega arith) (omega arith)) (second_ee B2 (omega arith) (omega arith)) (omega arith) (omega arith)
 
 -- a lone surrogate
-ed_wide : (h : Bool) (b : ℕ) → b ≡ 0xED → wide_step (gap h) b ≡ some (ed h)
+ed_wide : (h : Bool) (b : ℕ) → b ≡ 0xED → wide_step (gap h) b ≡ Some (ed h)
 unfolding wide_step choose◌then◌else◌
 ed_wide h b e = rw e
 
-lone_wide : (x : Bool) (b : ℕ) → 0x80 ≤ b → b ≤ 0xBF → wide_step (lone x) b ≡ some (gap x)
+lone_wide : (x : Bool) (b : ℕ) → 0x80 ≤ b → b ≤ 0xBF → wide_step (lone x) b ≡ Some (gap x)
 unfolding wide_step choose◌then◌else◌
 lone_wide x b p q = rw (le-leb 0x80 b p, le-leb b 0xBF q)
 
-high_wide : (h : Bool) (b : ℕ) → 0xA0 ≤ b → b ≤ 0xAF → wide_step (ed h) b ≡ some (lone true)
+high_wide : (h : Bool) (b : ℕ) → 0xA0 ≤ b → b ≤ 0xAF → wide_step (ed h) b ≡ Some (lone true)
 unfolding wide_step choose◌then◌else◌
 high_wide h b p q = rw (le-leb 0x80 b (omega arith), lt-leb b 0x9F (omega arith), le-leb 0xA0 b p, le-leb b 0xAF q)
 
-low_wide : (b : ℕ) → 0xB0 ≤ b → b ≤ 0xBF → wide_step (ed false) b ≡ some (lone false)
+low_wide : (b : ℕ) → 0xB0 ≤ b → b ≤ 0xBF → wide_step (ed false) b ≡ Some (lone false)
 unfolding wide_step choose◌then◌else◌
 low_wide b p q =
     rw (
@@ -233,7 +233,7 @@ low_wide b p q =
 
 -- three bytes that are a surrogate, given its second byte
 surrogate_run :
-    (h x : Bool) (a b c : ℕ) → a ≡ 0xED → wide_step (ed h) b ≡ some (lone x) → 0x80 ≤ c → c ≤ 0xBF → (xs : Bytes) →
+    (h x : Bool) (a b c : ℕ) → a ≡ 0xED → wide_step (ed h) b ≡ Some (lone x) → 0x80 ≤ c → c ≤ 0xBF → (xs : Bytes) →
     wide_from (gap h) (a ∷ b ∷ c ∷ xs) ≡ wide_from (gap x) xs
 surrogate_run h x a b c e f p q xs =
     wide_on (gap h) (ed h) a (b ∷ c ∷ xs) (ed_wide h a e)
@@ -331,7 +331,7 @@ pair_run x h l p q xs =
 
 data Good : Char → List Unit16 → Type 0 where
   g_end : Good Whole []
-  g_byte : {c c' : Char} {b : ℕ} {us : List Unit16} → char_step c b ≡ On c' → Good c' us → Good c (byte b ∷ us)
+  g_byte : {c c' : Char} {b : ℕ} {us : List Unit16} → char_step c b ≡ Some c' → Good c' us → Good c (byte b ∷ us)
   g_unit : {u : ℕ} {us : List Unit16} → u ≤ 0xFFFF → Good Whole us → Good Whole (unit u ∷ us)
 
 -- after a high surrogate comes no low one
@@ -387,7 +387,7 @@ unit_fine h u (unit l ∷ us) m f ih t =
     (λ e. alone h u (unit l ∷ us) m f (free_high (is_high u) l us e) ih)
 
 byte_fine :
-    {c : Char} {w : Wide} (b : ℕ) (c' : Char) (us : List Unit16) → Near c w → char_step c b ≡ On c' →
+    {c : Char} {w : Wide} (b : ℕ) (c' : Char) (us : List Unit16) → Near c w → char_step c b ≡ Some c' →
     ((w' : Wide) → Near c' w' → Free w' us → wide_from w' (text_of us) ≡ true) → wide_from w (text_of (byte b ∷ us)) ≡ true
 unfolding text_of
 byte_fine {w} b c' us n e ih =
@@ -438,7 +438,7 @@ data InJson : Cell → Type 0 where
 data Letter (b : ℕ) (bs : Bytes) (c' : Cell) : Type 0 where
   closes : Complete ≡ c' → (b is QUOTE) ≡ true → Letter b bs c'
   escapes : Escape ≡ c' → (b is QUOTE) ≡ false → (b is BACKSLASH) ≡ true → Letter b bs c'
-  stands : (c : Char) → Quoted c ≡ c' → (b is QUOTE) ≡ false → (b is BACKSLASH) ≡ false → char_step Whole b ≡ On c → Letter b bs c'
+  stands : (c : Char) → Quoted c ≡ c' → (b is QUOTE) ≡ false → (b is BACKSLASH) ≡ false → char_step Whole b ≡ Some c → Letter b bs c'
 
 letter : (b : ℕ) (bs : Bytes) (c' : Cell) → cell_step Csvj (Quoted Whole) b ≡ More c' → Letter b bs c'
 unfolding cell_step quoted_byte choose◌then◌else◌

@@ -4,12 +4,12 @@ use Prim.Native.Nat.{ℕ, ◌≤◌}
 use native.Mathlib.Omega.{arith}
 use mathlib.Core.Path.{◌≡◌, refl, ◌∙◌}
 use mathlib.Core.Bool.{Bool, true, false, ◌||◌}
-use mathlib.Core.Option.{some}
+use Rattle.std.specs.Prelude.{Some}
 use mathlib.Core.List.{[], ◌∷◌}
 use borrow.Author.Tests.{le-leb, ne_eqb}
 use Rattle.model.specs.rules.Types.{Delimiter, Comma, Semicolon, Tab, Bar, Quote, Double, Single, Dialect, Csvj, Tdif, CsvPlus, Lead, C2ToDf}
-use Rattle.model.specs.rules.Types.{E0, E1ToEc, Ed, EeToEf, F0, F1ToF3, F4, Inner, Second, LastTwo, Last, Char, Whole, Within, Advance, On}
-use Rattle.model.specs.rules.Types.{Broken}
+use Rattle.model.specs.rules.Types.{E0, E1ToEc, Ed, EeToEf, F0, F1ToF3, F4, Inner, Second, LastTwo, Last, Char, Whole, Within, Option}
+use Rattle.model.specs.rules.Types.{None}
 use Rattle.model.specs.rules.Base.{Bytes, CR, LF, ◌is◌, within, choose◌then◌else◌}
 use Rattle.model.specs.rules.Dialect.{quote_of, delimiter_of, delimiter_byte, quote_byte}
 use Rattle.model.specs.rules.Utf8.{row_of, leads, lead_byte, inner_step, char_step, text_from, Wide, gap, ed, lone, inner, settled, wide_step}
@@ -18,7 +18,7 @@ use Rattle.model.proofs.Tests.{split_on, impossible, is→eq, within_true}
 
 -- ---- ASCII
 
-pub ascii_whole : (b : ℕ) → b ≤ 0x7F → char_step Whole b ≡ On Whole
+pub ascii_whole : (b : ℕ) → b ≤ 0x7F → char_step Whole b ≡ Some Whole
 unfolding char_step choose◌then◌else◌
 ascii_whole b h = rw (le-leb 0 b (omega arith), le-leb b 0x7F h)
 
@@ -52,7 +52,7 @@ separator_ascii d b e =
 
 -- ---- later bytes
 
-pub broken_on : {A : Type 0} {c : Char} → Broken ≡ On c → A
+pub broken_on : {A : Type 0} {c : Char} → None ≡ Some c → A
 broken_on e = let z : ◌≡◌ {A = ℕ} 0 1 = cc in absurd (omega arith)
 
 second_low : (l : Lead) → 0x80 ≤ (row_of l).lo2
@@ -67,7 +67,7 @@ second_low F1ToF3 = omega arith
 second_low F4 = omega arith
 
 -- a byte inside a character is from 80 on
-pub inner_high : (i : Inner) (b : ℕ) (c : Char) → char_step (Within i) b ≡ On c → 0x80 ≤ b
+pub inner_high : (i : Inner) (b : ℕ) (c : Char) → char_step (Within i) b ≡ Some c → 0x80 ≤ b
 unfolding char_step inner_step choose◌then◌else◌
 inner_high (Second l) b c e =
     split_on (within (row_of l).lo2 (row_of l).hi2 b)
@@ -78,7 +78,7 @@ inner_high (Second l) b c e =
 inner_high LastTwo b c e = split_on (within 0x80 0xBF b) (λ p. (within_true 0x80 0xBF b p).0) λ p. broken_on (rw p at e)
 inner_high Last b c e = split_on (within 0x80 0xBF b) (λ p. (within_true 0x80 0xBF b p).0) λ p. broken_on (rw p at e)
 
-pub inner_no_quote : (d : Dialect) (i : Inner) (b : ℕ) (c : Char) → char_step (Within i) b ≡ On c → (b is quote_of d) ≡ false
+pub inner_no_quote : (d : Dialect) (i : Inner) (b : ℕ) (c : Char) → char_step (Within i) b ≡ Some c → (b is quote_of d) ≡ false
 inner_no_quote d i b c e =
     let h : 0x80 ≤ b = inner_high i b c e in
     let q : quote_of d ≤ 0x7F = quote_ascii d in
@@ -88,17 +88,17 @@ inner_no_quote d i b c e =
 
 -- what the first byte of a text shows
 pub data TextStep (c : Char) (b : ℕ) (bs : Bytes) : Type 0 where
-  text_step : (c' : Char) → char_step c b ≡ On c' → text_from c' bs ≡ true → TextStep c b bs
+  text_step : (c' : Char) → char_step c b ≡ Some c' → text_from c' bs ≡ true → TextStep c b bs
 
 pub text_on : (c : Char) (b : ℕ) (bs : Bytes) → text_from c (b ∷ bs) ≡ true → TextStep c b bs
 unfolding text_from
 text_on c b bs e = go (char_step c b) refl e
   where
-    go : (o : Advance) → char_step c b ≡ o → (elim o as (λ _. Bool) [ Broken ↦ false | On c' ↦ text_from c' bs ]) ≡ true → TextStep c b bs
-    go Broken p k = impossible k
-    go (On c') p k = text_step c' p k
+    go : (o : Option Char) → char_step c b ≡ o → (elim o as (λ _. Bool) [ None ↦ false | Some c' ↦ text_from c' bs ]) ≡ true → TextStep c b bs
+    go None p k = impossible k
+    go (Some c') p k = text_step c' p k
 
-pub text_more : (c c' : Char) (b : ℕ) (bs : Bytes) → char_step c b ≡ On c' → text_from c (b ∷ bs) ≡ text_from c' bs
+pub text_more : (c c' : Char) (b : ℕ) (bs : Bytes) → char_step c b ≡ Some c' → text_from c (b ∷ bs) ≡ text_from c' bs
 unfolding text_from
 text_more Whole c' b bs e = rw (e, text_from)
 text_more (Within i) c' b bs e = rw (e, text_from)
@@ -130,18 +130,18 @@ near_settled (Within i) = near_inner
 -- a byte of UTF-8 takes near states to near ones
 pub record NearStep (c : Char) (w : Wide) (b : ℕ) : Type 0 where
   pub wide : Wide
-  pub step : wide_step w b ≡ some wide
+  pub step : wide_step w b ≡ Some wide
   pub near : Near c wide
   pub calm : Calm wide
 
-pub same_on : {x y : Char} {o : Advance} → o ≡ On x → o ≡ On y → x ≡ y
+pub same_on : {x y : Char} {o : Option Char} → o ≡ Some x → o ≡ Some y → x ≡ y
 same_on p q = cc
 
-ed_char : char_step Whole 0xED ≡ On (Within (Second Ed))
+ed_char : char_step Whole 0xED ≡ Some (Within (Second Ed))
 unfolding char_step lead_byte leads row_of choose◌then◌else◌
 ed_char = refl
 
-gap_step : (h : Bool) (b : ℕ) (c : Char) → char_step Whole b ≡ On c → NearStep c (gap h) b
+gap_step : (h : Bool) (b : ℕ) (c : Char) → char_step Whole b ≡ Some c → NearStep c (gap h) b
 unfolding wide_step choose◌then◌else◌
 gap_step h b c e = go (b is 0xED) refl
   where
@@ -151,20 +151,20 @@ gap_step h b c e = go (b is 0xED) refl
         record { wide = ed h; step = rw p; near = rw (← q) near_ed; calm = tt }
     go false p = record { wide = settled c; step = rw (p, e); near = near_settled c; calm = calm_settled c }
 
-ed_step : (h : Bool) (b : ℕ) (c : Char) → char_step (Within (Second Ed)) b ≡ On c → NearStep c (ed h) b
+ed_step : (h : Bool) (b : ℕ) (c : Char) → char_step (Within (Second Ed)) b ≡ Some c → NearStep c (ed h) b
 unfolding wide_step char_step inner_step row_of choose◌then◌else◌
 ed_step h b c e =
     split_on (within 0x80 0x9F b)
     (λ p. let z : Within Last ≡ c = same_on refl (rw p at e) in record { wide = inner Last; step = rw p; near = rw (← z) near_inner; calm = tt }) λ p.
     broken_on (rw p at e)
 
-pub near_step : {c : Char} {w : Wide} (b : ℕ) (c' : Char) → Near c w → char_step c b ≡ On c' → NearStep c' w b
+pub near_step : {c : Char} {w : Wide} (b : ℕ) (c' : Char) → Near c w → char_step c b ≡ Some c' → NearStep c' w b
 unfolding wide_step
 near_step b c' (near_gap {h}) e = gap_step h b c' e
 near_step b c' (near_ed {h}) e = ed_step h b c' e
 near_step b c' near_inner e = record { wide = settled c'; step = rw e; near = near_settled c'; calm = calm_settled c' }
 
-pub wide_on : (w w' : Wide) (b : ℕ) (bs : Bytes) → wide_step w b ≡ some w' → wide_from w (b ∷ bs) ≡ wide_from w' bs
+pub wide_on : (w w' : Wide) (b : ℕ) (bs : Bytes) → wide_step w b ≡ Some w' → wide_from w (b ∷ bs) ≡ wide_from w' bs
 unfolding wide_from
 wide_on (gap h) w' b bs e = rw (e, wide_from)
 wide_on (ed h) w' b bs e = rw (e, wide_from)

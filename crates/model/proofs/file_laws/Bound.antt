@@ -4,13 +4,13 @@ use Prim.Native.Nat.{ℕ, suc, ◌+◌, ◌*◌, ◌≤◌}
 use native.Mathlib.Omega.{arith}
 use mathlib.Core.Path.{◌≡◌, refl, sym, ◌∙◌}
 use mathlib.Core.Bool.{Bool, true, false}
-use mathlib.Core.Option.{Option}
+use Rattle.std.specs.Prelude.{Option}
 use mathlib.Core.List.{List, [], ◌∷◌, ◌++◌}
 use lib.ListN.{length, length-append}
 use Rattle.model.specs.rules.Types.{Kind, Text, Number, True, False, Null, Dialect, Csvj, Tdif, CsvPlus, Target}
-use Rattle.model.specs.rules.Types.{Cell, ByteFault, Fault, CheckResult, Sound, Faulty}
+use Rattle.model.specs.rules.Types.{Cell, ByteFault, Fault, CheckResult, Ok, Err}
 use Rattle.model.specs.rules.Types.{FileState, Top, Begin, Ended, Bom1, Bom2, PlainBom1, PlainBom2, Comment, Blanks, ExpectCell, Inside, After}
-use Rattle.model.specs.rules.Types.{Cr, Outside, Passed, OfCell, Between, Tail, Ends, Step, To, Reject, Ending, Clean, Final, Cut}
+use Rattle.model.specs.rules.Types.{Cr, Outside, Passed, OfCell, Between, Tail, Ends, Step, Ending, Clean, Final, Cut}
 use Rattle.model.specs.rules.Base.{Bytes, QUOTE, choose◌then◌else◌, is_empty}
 use Rattle.model.specs.rules.Dialect.{quote_of}
 use Rattle.model.specs.rules.File.{file_step, file_end, last_cell}
@@ -153,14 +153,14 @@ slack_one Cr = omega arith
 
 -- after such a CR only the record's end is read
 pub data Steady (f : FileState) : Step → Type 0 where
-  y_fault : {e : ByteFault} → Steady f (Reject e)
-  y_outside : {g : FileState} → Steady f (To g Outside)
-  y_passed : {g : FileState} → Steady f (To g Passed)
-  y_cell : {g : FileState} → slack f ≡ 0 → Steady f (To g OfCell)
-  y_between : {g : FileState} {k : Bool} → slack f ≡ 0 → Steady f (To g (Between k))
-  y_tail : {k : Bool} → slack f ≡ 0 → Steady f (To Cr (Tail k))
-  y_ends : {g : FileState} {k : Bool} → slack f ≡ 0 → Steady f (To g (Ends k))
-  y_over : {g : FileState} → Steady f (To g (Ends false))
+  y_fault : {e : ByteFault} → Steady f (Err e)
+  y_outside : {g : FileState} → Steady f (Ok (g, Outside))
+  y_passed : {g : FileState} → Steady f (Ok (g, Passed))
+  y_cell : {g : FileState} → slack f ≡ 0 → Steady f (Ok (g, OfCell))
+  y_between : {g : FileState} {k : Bool} → slack f ≡ 0 → Steady f (Ok (g, Between k))
+  y_tail : {k : Bool} → slack f ≡ 0 → Steady f (Ok (Cr, Tail k))
+  y_ends : {g : FileState} {k : Bool} → slack f ≡ 0 → Steady f (Ok (g, Ends k))
+  y_over : {g : FileState} → Steady f (Ok (g, Ends false))
 
 holds_slack : {f : FileState} {c : Cell} → Holds f c → slack f ≡ 0
 holds_slack steps.at_top = refl
@@ -243,8 +243,8 @@ module _ (d : Dialect) (target : Option Target) where
   close_weighs r false i = weigh_more (omega arith) i.cells
 
   validated_counted : (r next : Read) (v : CheckResult) → All BoundedRecord r.done → Counted next → CountedTo (validated r next v)
-  validated_counted r next Sound h i = c_going i
-  validated_counted r next (Faulty e) h i = c_stopped h
+  validated_counted r next (Ok _) h i = c_going i
+  validated_counted r next (Err e) h i = c_stopped h
 
   complete_counted : (r : Read) (vs : List Value) (f : FileState) (o : ℕ) → Counted r → Bounded r.size vs → CountedTo (complete d target r vs f o)
   unfolding complete
@@ -269,25 +269,25 @@ module _ (d : Dialect) (target : Option Target) where
 
   pub move_counted : (r : Read) (b : ℕ) (s : Step) → Counted r → Steady r.state s → CountedTo (move d target r b s)
   unfolding move
-  move_counted r b (Reject e) i y_fault = c_stopped i.done
-  move_counted r b (To f Outside) i y_outside =
+  move_counted r b (Err e) i y_fault = c_stopped i.done
+  move_counted r b (Ok (f, Outside)) i y_outside =
       let g : 0 + 0 ≤ 0 + slack f = omega arith in c_going (record { sum = 0; cells = weigh_none; fits = g; done = i.done })
-  move_counted r b (To f Passed) i y_passed =
+  move_counted r b (Ok (f, Passed)) i y_passed =
       let g : 0 + 0 ≤ 0 + slack f = omega arith in c_going (record { sum = 0; cells = weigh_none; fits = g; done = i.done })
-  move_counted r b (To f OfCell) i (y_cell z) =
+  move_counted r b (Ok (f, OfCell)) i (y_cell z) =
       let h = i.fits in
       let g : i.sum + length (r.raw ++ (b ∷ [])) ≤ suc r.size + slack f = omega (arith, length-append r.raw (b ∷ [])) in
       c_going (record { sum = i.sum; cells = i.cells; fits = g; done = i.done })
-  move_counted r b (To f (Between k)) i (y_between z) =
+  move_counted r b (Ok (f, Between k)) i (y_between z) =
       let h = i.fits in
       let g : i.sum + suc (length r.raw) + 0 ≤ suc r.size + slack f = omega arith in
       c_going (record { sum = i.sum + suc (length r.raw); cells = close_weighs r k i; fits = g; done = i.done })
-  move_counted r b (To f (Tail k)) i (y_tail z) =
+  move_counted r b (Ok (f, Tail k)) i (y_tail z) =
       let h = i.fits in
       let g : i.sum + suc (length r.raw) + 0 ≤ r.size + 1 = omega arith in
       c_going (record { sum = i.sum + suc (length r.raw); cells = close_weighs r k i; fits = g; done = i.done })
-  move_counted r b (To f (Ends k)) i (y_ends z) = complete_counted r (closing d k r) f (suc r.offset) i (closed_bound r k i z)
-  move_counted r b (To f (Ends k)) i y_over = complete_counted r (closing d false r) f (suc r.offset) i (over_bound r i)
+  move_counted r b (Ok (f, Ends k)) i (y_ends z) = complete_counted r (closing d k r) f (suc r.offset) i (closed_bound r k i z)
+  move_counted r b (Ok (f, Ends k)) i y_over = complete_counted r (closing d false r) f (suc r.offset) i (over_bound r i)
 
   byte_counted : (r : Read) (b : ℕ) → Counted r → CountedTo (read_byte d target r b)
   unfolding read_byte

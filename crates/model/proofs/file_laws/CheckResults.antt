@@ -7,48 +7,48 @@ use mathlib.Core.List.{List, ◌++◌}
 use lib.ListN.{length}
 use lib.Dec.{ltb}
 use borrow.Author.Tests.{ltb-false}
-use Rattle.model.specs.rules.Types.{Target, Fault, NoCells, TextTooLong, CheckResult, Sound, Faulty}
+use Rattle.model.specs.rules.Types.{Target, Fault, NoCells, TextTooLong, CheckResult, Result, Ok, Err}
 use Rattle.model.specs.rules.Base.{is_empty}
 use Rattle.model.specs.rules.Dialect.{is_csvj}
 use Rattle.model.specs.rules.Text.{Value, carried, record_text, ending}
 use Rattle.model.specs.rules.Report.{MAXFILE, MAXRECORD}
 use Rattle.model.specs.rules.Records.{◌or_else◌, when, uncarried_from, clash_fault, target_fault}
 
-pub fault_sound : {A : Type 0} {e : Fault} → Faulty e ≡ Sound → A
+pub fault_sound : {A T E : Type 0} {e : E} {x : T} → ◌≡◌ {A = Result T E} (Err e) (Ok x) → A
 fault_sound x = let z : ◌≡◌ {A = ℕ} 0 1 = cc in absurd (omega arith)
 
 pub else_assoc : (u v w : CheckResult) → ((u or_else v) or_else w) ≡ (u or_else (v or_else w))
 unfolding ◌or_else◌
-else_assoc Sound v w = refl
-else_assoc (Faulty e) v w = refl
+else_assoc (Ok _) v w = refl
+else_assoc (Err e) v w = refl
 
-pub else_sound : (x y : CheckResult) → (x or_else y) ≡ Sound → (x ≡ Sound) × (y ≡ Sound)
+pub else_sound : (x y : CheckResult) → (x or_else y) ≡ Ok tt → (x ≡ Ok tt) × (y ≡ Ok tt)
 unfolding ◌or_else◌
-else_sound Sound y e = (refl, e)
-else_sound (Faulty f) y e = fault_sound e
+else_sound (Ok _) y e = (refl, e)
+else_sound (Err f) y e = fault_sound e
 
-pub when_sound : (b : Bool) (f : Fault) → when b f ≡ Sound → b ≡ false
+pub when_sound : (b : Bool) (f : Fault) → when b f ≡ Ok tt → b ≡ false
 unfolding when
 when_sound true f e = fault_sound e
 when_sound false f e = refl
 
-pub both_sound : {x y : CheckResult} → x ≡ Sound → y ≡ Sound → (x or_else y) ≡ Sound
+pub both_sound : {x y : CheckResult} → x ≡ Ok tt → y ≡ Ok tt → (x or_else y) ≡ Ok tt
 unfolding ◌or_else◌
 both_sound e k = rw (e, k)
 
-pub not_when : {b : Bool} (f : Fault) → b ≡ false → when b f ≡ Sound
+pub not_when : {b : Bool} (f : Fault) → b ≡ false → when b f ≡ Ok tt
 unfolding when
 not_when f e = rw e
 
 -- fault 9 has none of its reasons
 pub record TargetSound (t : Target) (header : Bool) (written : ℕ) (vs : List Value) : Type 0 where
   pub filled : (header && is_empty vs && not (is_csvj t.dialect)) ≡ false
-  pub carries : uncarried_from t.dialect 1 (carried t vs) ≡ Sound
-  pub clash : clash_fault t.dialect header (carried t vs) ≡ Sound
+  pub carries : uncarried_from t.dialect 1 (carried t vs) ≡ Ok tt
+  pub clash : clash_fault t.dialect header (carried t vs) ≡ Ok tt
   pub short : length (record_text t header vs) ≤ MAXRECORD
   pub fits : written + length (record_text t header vs ++ ending t.dialect) ≤ MAXFILE
 
-pub target_sound : (t : Target) (header : Bool) (written : ℕ) (vs : List Value) → target_fault t header written vs ≡ Sound → TargetSound t header written vs
+pub target_sound : (t : Target) (header : Bool) (written : ℕ) (vs : List Value) → target_fault t header written vs ≡ Ok tt → TargetSound t header written vs
 unfolding target_fault
 target_sound t header written vs e =
     let a = else_sound (when (header && is_empty vs && not (is_csvj t.dialect)) NoCells) _ e in

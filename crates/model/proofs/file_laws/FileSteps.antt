@@ -4,11 +4,11 @@ use Prim.Native.Nat.{ℕ, ◌≤◌}
 use native.Mathlib.Omega.{arith}
 use mathlib.Core.Path.{◌≡◌, refl, ap, ◌∙◌}
 use mathlib.Core.Bool.{Bool, true, false}
-use Rattle.model.specs.rules.Types.{Dialect, Csvj, Tdif, CsvPlus, EeToEf, Second, Last, Char, Whole, Within, Advance, On, Broken}
+use Rattle.model.specs.rules.Types.{Dialect, Csvj, Tdif, CsvPlus, EeToEf, Second, Last, Char, Whole, Within, Option, Some, None}
 use Rattle.model.specs.rules.Types.{Cell, Fresh, Quoted, Closed, Escape, Hex, InNumber, InWord, Plain, Complete, CellStep, More, Stop, Refuse}
 use Rattle.model.specs.rules.Types.{ByteFault, Encoding, Syntax}
 use Rattle.model.specs.rules.Types.{FileState, Top, Begin, Ended, Bom1, Bom2, PlainBom1, PlainBom2, Comment, Blanks, ExpectCell, Inside, After}
-use Rattle.model.specs.rules.Types.{Cr, ByteRole, Outside, Passed, OfCell, Between, Tail, Ends, Step, To, Reject}
+use Rattle.model.specs.rules.Types.{Cr, ByteRole, Outside, Passed, OfCell, Between, Tail, Ends, Step, Ok, Err}
 use Rattle.model.specs.rules.Base.{choose◌then◌else◌, LF, CR, COMMA, ◌is◌}
 use Rattle.model.specs.rules.Dialect.{delimiter_of}
 use Rattle.model.specs.rules.Utf8.{row_of, leads, lead_byte, inner_step, char_step}
@@ -20,6 +20,10 @@ use Rattle.model.proofs.cell_laws.Utf8.{is_ascii}
 use Rattle.model.proofs.cell_laws.CellSteps.{broken_not, CellTransition, takes_more, takes_stop, takes_two, takes_three, cell_transition}
 use Rattle.model.proofs.file_laws.Counted.{counted, lf_uncounted, cr_uncounted, more_counted, blank_counted, delimiter_counted}
 use Rattle.model.proofs.cell_laws.CellRuns.{bom_cell, bom_rest}
+
+-- a step has one state and one role
+pub step_parts : {f g : FileState} {p q : ByteRole} {s : Step} → s ≡ Ok (f, p) → s ≡ Ok (g, q) → (f ≡ g) × (p ≡ q)
+step_parts {f} {g} {p} {q} e k = let z : ◌≡◌ {A = FileState × ByteRole} (f, p) (g, q) = cc in (ap (λ x. x.0) z, ap (λ x. x.1) z)
 
 -- between records
 pub data Rests : FileState → Type 0 where
@@ -102,26 +106,26 @@ pub data Breaks (b : ℕ) : Type 0 where
 
 -- fault 2 is given exactly where the byte breaks the UTF-8 table of the text that it belongs to
 pub data Reports : (breaks : Bool) → Step → Type 0 where
-  reports_to : {f : FileState} {p : ByteRole} → Reports false (To f p)
-  reports_two : Reports true (Reject Encoding)
-  reports_three : Reports false (Reject Syntax)
+  reports_to : {f : FileState} {p : ByteRole} → Reports false (Ok (f, p))
+  reports_two : Reports true (Err Encoding)
+  reports_three : Reports false (Err Syntax)
 
 -- the text that the next byte belongs to allows this one, or there is none
 abbrev Fine : Dialect → FileState → ℕ → Type 0
 Fine d f b = breaks (text_at d f) b ≡ false
 
 pub data Transition (d : Dialect) (f : FileState) (b : ℕ) : Step → Type 0 where
-  refuses : {e : ByteFault} → Reports (breaks (text_at d f) b) (Reject e) → Transition d f b (Reject e)
-  outside : {g : FileState} → Fine d f b → Around d f → Rests g → Transition d f b (To g Outside)
-  passes : {g : FileState} → Fine d f b → Rests f → Next g → Transition d f b (To g Passed)
+  refuses : {e : ByteFault} → Reports (breaks (text_at d f) b) (Err e) → Transition d f b (Err e)
+  outside : {g : FileState} → Fine d f b → Around d f → Rests g → Transition d f b (Ok (g, Outside))
+  passes : {g : FileState} → Fine d f b → Rests f → Next g → Transition d f b (Ok (g, Passed))
   adds :
       {g : FileState} {c c' : Cell} → Fine d f b → counts f b ≡ true → Holds f c → Grown g → Holds g c' → cell_step d c b ≡ More c' →
-      Transition d f b (To g OfCell)
-  blanks : Fine d f b → counts f b ≡ true → Starts f → d ≡ Csvj → Transition d f b (To Blanks (Between false))
-  parts : {g : FileState} {k : Bool} → Fine d f b → counts f b ≡ true → Leaves d b f k → Opens g → Transition d f b (To g (Between k))
-  turns : {k : Bool} → Fine d f b → (b is CR) ≡ true → Leaves d b f k → Transition d f b (To Cr (Tail k))
-  ends : {g : FileState} {k : Bool} → Fine d f b → Breaks b → Leaves d b f k → Next g → Transition d f b (To g (Ends k))
-  ends_cr : Fine d f b → f ≡ Cr → (b is LF) ≡ true → Transition d f b (To Begin (Ends false))
+      Transition d f b (Ok (g, OfCell))
+  blanks : Fine d f b → counts f b ≡ true → Starts f → d ≡ Csvj → Transition d f b (Ok (Blanks, Between false))
+  parts : {g : FileState} {k : Bool} → Fine d f b → counts f b ≡ true → Leaves d b f k → Opens g → Transition d f b (Ok (g, Between k))
+  turns : {k : Bool} → Fine d f b → (b is CR) ≡ true → Leaves d b f k → Transition d f b (Ok (Cr, Tail k))
+  ends : {g : FileState} {k : Bool} → Fine d f b → Breaks b → Leaves d b f k → Next g → Transition d f b (Ok (g, Ends k))
+  ends_cr : Fine d f b → f ≡ Cr → (b is LF) ≡ true → Transition d f b (Ok (Begin, Ends false))
 
 pub tells : {d : Dialect} {f : FileState} {b : ℕ} {s : Step} → Transition d f b s → Reports (breaks (text_at d f) b) s
 tells (refuses t) = t
@@ -135,10 +139,10 @@ tells (ends t p l g) = rw t reports_to
 tells (ends_cr t e p) = rw t reports_to
 
 -- every byte of a cell counts in its record, and so does every byte between cells
-pub cell_counts : {d : Dialect} {f g : FileState} {b : ℕ} → Transition d f b (To g OfCell) → counts f b ≡ true
+pub cell_counts : {d : Dialect} {f g : FileState} {b : ℕ} → Transition d f b (Ok (g, OfCell)) → counts f b ≡ true
 cell_counts (adds t n h g i s) = n
 
-pub between_counts : {d : Dialect} {f g : FileState} {b : ℕ} {k : Bool} → Transition d f b (To g (Between k)) → counts f b ≡ true
+pub between_counts : {d : Dialect} {f g : FileState} {b : ℕ} {k : Bool} → Transition d f b (Ok (g, Between k)) → counts f b ≡ true
 between_counts (blanks t n e c) = n
 between_counts (parts t n l o) = n
 
@@ -182,10 +186,10 @@ break_uncounted f b q (lf p) = rw (is→eq b LF p) (lf_uncounted f q)
 break_uncounted f b q (cr p) = rw (is→eq b CR p) (cr_uncounted f q)
 
 -- a CR or LF that ends a record does not count in it
-pub tail_uncounted : {d : Dialect} {f g : FileState} {b : ℕ} {k : Bool} → Transition d f b (To g (Tail k)) → counts f b ≡ false
+pub tail_uncounted : {d : Dialect} {f g : FileState} {b : ℕ} {k : Bool} → Transition d f b (Ok (g, Tail k)) → counts f b ≡ false
 tail_uncounted {f} {b} (turns t p l) = break_uncounted f b (leaves_quotes l) (cr p)
 
-pub ends_uncounted : {d : Dialect} {f g : FileState} {b : ℕ} {k : Bool} → Transition d f b (To g (Ends k)) → counts f b ≡ false
+pub ends_uncounted : {d : Dialect} {f g : FileState} {b : ℕ} {k : Bool} → Transition d f b (Ok (g, Ends k)) → counts f b ≡ false
 ends_uncounted {f} {b} (ends t p l n) = break_uncounted f b (leaves_quotes l) p
 ends_uncounted {f} {b} (ends_cr t e p) = break_uncounted f b (rw e) (lf p)
 
@@ -265,9 +269,9 @@ module _ {f : FileState} (b : ℕ) where
   record_transition r e x Tdif = split (Transition Tdif f b) (b is 0x23) (λ _. outside (rw (x Tdif)) r comment) λ _. in_cell_transition Tdif (starts_holds e)
   record_transition r e x (CsvPlus s) = in_cell_transition (CsvPlus s) (starts_holds e)
 
-comment_transition : {d : Dialect} (b : ℕ) (c : Char) (o : Advance) → char_step c b ≡ o → Transition d (Comment c) b (commented o)
-comment_transition b c Broken e = refuses {e = Encoding} (rw e reports_two)
-comment_transition b c (On x) e = outside (rw e) (rests comment) comment
+comment_transition : {d : Dialect} (b : ℕ) (c : Char) (o : Option Char) → char_step c b ≡ o → Transition d (Comment c) b (commented o)
+comment_transition b c None e = refuses {e = Encoding} (rw e reports_two)
+comment_transition b c (Some x) e = outside (rw e) (rests comment) comment
 
 -- a byte of the byte order mark that belongs to an unquoted cell is counted
 high_counted : (f : FileState) (b n : ℕ) → 0x0E ≤ n → (b is n) ≡ true → counts f b ≡ true

@@ -2,10 +2,10 @@
 use Prim.Native.Nat.{ℕ, suc}
 use mathlib.Core.Path.{◌≡◌, refl, sym, ap, ◌∙◌}
 use mathlib.Core.Bool.{true}
-use mathlib.Core.Option.{Option}
+use Rattle.std.specs.Prelude.{Option}
 use mathlib.Core.List.{List, [], ◌∷◌, ◌++◌, append_assoc, append-nil}
-use Rattle.model.specs.rules.Types.{Dialect, Target, Fault, FileState, Begin, Outside, Passed, OfCell, Between, Tail, Ends, Step, To, Reject}
-use Rattle.model.specs.rules.Types.{CheckResult, Sound, Faulty, Ending, Clean, Final, Cut}
+use Rattle.model.specs.rules.Types.{Dialect, Target, Fault, FileState, Begin, Outside, Passed, OfCell, Between, Tail, Ends, Step, Ok, Err}
+use Rattle.model.specs.rules.Types.{CheckResult, Ending, Clean, Final, Cut}
 use Rattle.model.specs.rules.Base.{Bytes}
 use Rattle.model.specs.rules.File.{file_step, file_end}
 use Rattle.model.specs.rules.Text.{Value}
@@ -52,8 +52,8 @@ grows_trans {a} g h =
 
 module _ (d : Dialect) (target : Option Target) where
   validated_grows : (r next : Read) (v : CheckResult) → Grows r.done next.done → Grows r.done (records_of (validated r next v))
-  validated_grows r next Sound g = g
-  validated_grows r next (Faulty e) g = grows_refl r.done
+  validated_grows r next (Ok _) g = g
+  validated_grows r next (Err e) g = grows_refl r.done
 
   complete_grows : (r : Read) (vs : List Value) (f : FileState) (o : ℕ) → Grows r.done (records_of (complete d target r vs f o))
   unfolding complete
@@ -61,13 +61,13 @@ module _ (d : Dialect) (target : Option Target) where
 
   move_grows : (r : Read) (b : ℕ) (s : Step) → Grows r.done (records_of (move d target r b s))
   unfolding move
-  move_grows r b (Reject e) = grows_refl r.done
-  move_grows r b (To f Outside) = grows_refl r.done
-  move_grows r b (To f Passed) = grows_refl r.done
-  move_grows r b (To f OfCell) = grows_refl r.done
-  move_grows r b (To f (Between c)) = grows_refl r.done
-  move_grows r b (To f (Tail c)) = grows_refl r.done
-  move_grows r b (To f (Ends c)) = complete_grows r (closing d c r) f (suc r.offset)
+  move_grows r b (Err e) = grows_refl r.done
+  move_grows r b (Ok (f, Outside)) = grows_refl r.done
+  move_grows r b (Ok (f, Passed)) = grows_refl r.done
+  move_grows r b (Ok (f, OfCell)) = grows_refl r.done
+  move_grows r b (Ok (f, Between c)) = grows_refl r.done
+  move_grows r b (Ok (f, Tail c)) = grows_refl r.done
+  move_grows r b (Ok (f, Ends c)) = complete_grows r (closing d c r) f (suc r.offset)
 
   byte_grows : (r : Read) (b : ℕ) → Grows r.done (records_of (read_byte d target r b))
   unfolding read_byte

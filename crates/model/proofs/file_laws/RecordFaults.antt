@@ -3,11 +3,11 @@ use Prim.Native.Nat.{ℕ, suc}
 use native.Mathlib.Omega.{arith}
 use mathlib.Core.Path.{◌≡◌, refl}
 use mathlib.Core.Bool.{Bool, true, false, not}
-use mathlib.Core.Option.{Option, none, some}
+use Rattle.std.specs.Prelude.{Option, None, Some}
 use mathlib.Core.List.{List, [], ◌∷◌}
 use lib.ListN.{length}
 use Rattle.model.specs.rules.Types.{Dialect, Target, Fault, CellCount, RepeatedName, HeaderKind, TooManyColumns, NoCells, LacksKind}
-use Rattle.model.specs.rules.Types.{LoneSurrogate, Clash, TextTooLong, OutputTooLong, CheckResult, Sound, Faulty}
+use Rattle.model.specs.rules.Types.{LoneSurrogate, Clash, TextTooLong, OutputTooLong, CheckResult, Ok, Err}
 use Rattle.model.specs.rules.Base.{Bytes}
 use Rattle.model.specs.rules.Text.{Value, is_text, carried}
 use Rattle.model.specs.rules.Report.{is_at_byte}
@@ -17,12 +17,12 @@ use Rattle.model.proofs.Tests.{split}
 
 -- a check result without a fault, or with one whose offset is the record's start
 pub data OfRecord : CheckResult → Type 0 where
-  of_sound : OfRecord Sound
-  of_fault : {e : Fault} → is_at_byte e ≡ false → OfRecord (Faulty e)
+  of_sound : OfRecord (Ok tt)
+  of_fault : {e : Fault} → is_at_byte e ≡ false → OfRecord (Err e)
 
-pub fault_start : {e : Fault} (v : CheckResult) → v ≡ Faulty e → OfRecord v → is_at_byte e ≡ false
+pub fault_start : {e : Fault} (v : CheckResult) → v ≡ Err e → OfRecord v → is_at_byte e ≡ false
 fault_start v h of_sound = let z : ◌≡◌ {A = ℕ} 0 1 = cc in absurd (omega arith)
-fault_start {e} (Faulty f) h (of_fault k) = let z : f ≡ e = cc in rw z at k
+fault_start {e} (Err f) h (of_fault k) = let z : f ≡ e = cc in rw z at k
 
 when_record : (t : Bool) (e : Fault) → is_at_byte e ≡ false → OfRecord (when t e)
 unfolding when
@@ -76,8 +76,8 @@ target_record t header written vs =
     (else_record (clash_record t.dialect header (carried t vs)) (else_record (when_record _ TextTooLong refl) (when_record _ OutputTooLong refl))))
 
 converting_record : (target : Option Target) (f : Target → CheckResult) → ((t : Target) → OfRecord (f t)) → OfRecord (converting target f)
-converting_record none f h = of_sound
-converting_record (some t) f h = h t
+converting_record None f h = of_sound
+converting_record (Some t) f h = h t
 
 pub fault_record : (d : Dialect) (target : Option Target) (done : List Rec) (vs : List Value) → OfRecord (record_fault d target done vs)
 unfolding record_fault

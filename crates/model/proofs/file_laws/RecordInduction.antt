@@ -3,10 +3,10 @@ use Prim.Native.Nat.{ℕ, suc}
 use native.Mathlib.Omega.{arith}
 use mathlib.Core.Path.{◌≡◌, refl}
 use mathlib.Core.Bool.{true}
-use mathlib.Core.Option.{Option}
+use Rattle.std.specs.Prelude.{Option}
 use mathlib.Core.List.{List, [], ◌∷◌, ◌++◌}
-use Rattle.model.specs.rules.Types.{Dialect, Target, FileState, Begin, Outside, Passed, OfCell, Between, Tail, Ends, Step, To, Reject, Ending}
-use Rattle.model.specs.rules.Types.{Clean, Final, Cut, Fault, CheckResult, Sound, Faulty}
+use Rattle.model.specs.rules.Types.{Dialect, Target, FileState, Begin, Outside, Passed, OfCell, Between, Tail, Ends, Step, Ok, Err, Ending}
+use Rattle.model.specs.rules.Types.{Clean, Final, Cut, Fault, CheckResult}
 use Rattle.model.specs.rules.Base.{Bytes}
 use Rattle.model.specs.rules.File.{file_step, file_end}
 use Rattle.model.specs.rules.Text.{Value}
@@ -17,10 +17,10 @@ use Rattle.model.proofs.Tests.{split}
 -- ---- a property that every record preserves
 
 module _ (d : Dialect) (target : Option Target) (B : List Rec → Type 0)
-    (one_more_lem : (ds : List Rec) (x : Rec) → B ds → record_fault d target ds x.cells ≡ Sound → B (ds ++ (x ∷ []))) where
-  validated_keeps : (r next : Read) (v : CheckResult) → (v ≡ Sound → B next.done) → B r.done → B (records_of (validated r next v))
-  validated_keeps r next Sound f k = f refl
-  validated_keeps r next (Faulty e) f k = k
+    (one_more_lem : (ds : List Rec) (x : Rec) → B ds → record_fault d target ds x.cells ≡ Ok tt → B (ds ++ (x ∷ []))) where
+  validated_keeps : (r next : Read) (v : CheckResult) → (v ≡ Ok tt → B next.done) → B r.done → B (records_of (validated r next v))
+  validated_keeps r next (Ok _) f k = f refl
+  validated_keeps r next (Err e) f k = k
 
   complete_keeps : (r : Read) (vs : List Value) (f : FileState) (o : ℕ) → B r.done → B (records_of (complete d target r vs f o))
   unfolding complete
@@ -30,13 +30,13 @@ module _ (d : Dialect) (target : Option Target) (B : List Rec → Type 0)
 
   move_keeps : (r : Read) (b : ℕ) (s : Step) → B r.done → B (records_of (move d target r b s))
   unfolding move
-  move_keeps r b (Reject e) k = k
-  move_keeps r b (To f Outside) k = k
-  move_keeps r b (To f Passed) k = k
-  move_keeps r b (To f OfCell) k = k
-  move_keeps r b (To f (Between c)) k = k
-  move_keeps r b (To f (Tail c)) k = k
-  move_keeps r b (To f (Ends c)) k = complete_keeps r (closing d c r) f (suc r.offset) k
+  move_keeps r b (Err e) k = k
+  move_keeps r b (Ok (f, Outside)) k = k
+  move_keeps r b (Ok (f, Passed)) k = k
+  move_keeps r b (Ok (f, OfCell)) k = k
+  move_keeps r b (Ok (f, Between c)) k = k
+  move_keeps r b (Ok (f, Tail c)) k = k
+  move_keeps r b (Ok (f, Ends c)) k = complete_keeps r (closing d c r) f (suc r.offset) k
 
   byte_keeps : (r : Read) (b : ℕ) → B r.done → B (records_of (read_byte d target r b))
   unfolding read_byte
@@ -83,8 +83,8 @@ between_has r [] e = has_fault
 between_has r (h ∷ rs) e = has_record h rs e
 
 validated_has : (r next : Read) (v : CheckResult) → HasRecord (going next) → HasRecord (validated r next v)
-validated_has r next Sound h = h
-validated_has r next (Faulty e) h = has_fault
+validated_has r next (Ok _) h = h
+validated_has r next (Err e) h = has_fault
 
 end_has : (d : Dialect) (T : Option Target) (p : Progress) → HasRecord (read_end d T p)
 unfolding read_end complete

@@ -7,12 +7,12 @@ use mathlib.Core.Logic.{◌⊎◌, inl, inr, ◌↔◌}
 use mathlib.Core.Bool.{Bool, true, false}
 use mathlib.Core.List.{[], ◌∷◌, ◌++◌}
 use Rattle.model.specs.rules.Types.{Delimiter, Comma, Semicolon, Tab, Bar, Quote, Double, Single, Settings, Dialect, Csvj, Tdif, CsvPlus}
-use Rattle.model.specs.rules.Types.{C2ToDf, E0, E1ToEc, Ed, EeToEf, F0, F1ToF3, F4, Inner, Second, LastTwo, Last, Char, Whole, Within, On}
+use Rattle.model.specs.rules.Types.{C2ToDf, E0, E1ToEc, Ed, EeToEf, F0, F1ToF3, F4, Inner, Second, LastTwo, Last, Char, Whole, Within, Some}
 use Rattle.model.specs.rules.Types.{HexLeft, Four, Three, Two, One, Numeral, Minus, Zero, Integer, Point, Fraction, E, ESign, Exponent, Word, T}
 use Rattle.model.specs.rules.Types.{Tr, Tru, F, Fa, Fal, Fals, N, Nu, Nul, Backslash}
 use Rattle.model.specs.rules.Types.{Cell, Fresh, Quoted, Closed, Escape, Hex, InNumber, InWord, Plain, Complete, More, Stop, ByteFault}
 use Rattle.model.specs.rules.Types.{FileState, Top, Begin, Ended, Bom1, Bom2, PlainBom1, PlainBom2, Comment, Blanks, ExpectCell, Inside, After}
-use Rattle.model.specs.rules.Types.{Cr, ByteRole, Outside, Passed, OfCell, Ends, Step, To, Reject}
+use Rattle.model.specs.rules.Types.{Cr, ByteRole, Outside, Passed, OfCell, Ends, Step, Ok, Err}
 use Rattle.model.specs.rules.Base.{Bytes, LF, QUOTE, ◌is◌, choose◌then◌else◌}
 use Rattle.model.specs.rules.Dialect.{quote_of, delimiter_of, delimiter_byte, quote_byte}
 use Rattle.model.specs.rules.Utf8.{row_of, inner_step, char_step}
@@ -112,10 +112,10 @@ completion d Cr = line
 
 -- ---- it completes
 
-on : (d : Dialect) (f : FileState) (b : ℕ) (f' : FileState) (p : ByteRole) {bs : Bytes} → file_step d f b ≡ To f' p → Completes d f' bs → Completes d f (b ∷ bs)
+on : (d : Dialect) (f : FileState) (b : ℕ) (f' : FileState) (p : ByteRole) {bs : Bytes} → file_step d f b ≡ Ok (f', p) → Completes d f' bs → Completes d f (b ∷ bs)
 on d f b f' p e k = onward e k
 
-over : (d : Dialect) (f : FileState) (b : ℕ) (f' : FileState) (k : Bool) → file_step d f b ≡ To f' (Ends k) → Completes d f (b ∷ [])
+over : (d : Dialect) (f : FileState) (b : ℕ) (f' : FileState) (k : Bool) → file_step d f b ≡ Ok (f', Ends k) → Completes d f (b ∷ [])
 over d f b f' k e = completed e
 
 lf_no_delimiter : (s : Settings) → (LF is delimiter_of (CsvPlus s)) ≡ false
@@ -137,7 +137,7 @@ lf_no_quote (CsvPlus s) = go s.quote
     go Single = refl
 
 -- LF ends a record after a cell
-after_line : (d : Dialect) (k : Bool) → after_cell d k LF ≡ To Begin (Ends k)
+after_line : (d : Dialect) (k : Bool) → after_cell d k LF ≡ Ok (Begin, Ends k)
 unfolding after_cell choose◌then◌else◌
 after_line Csvj k = refl
 after_line Tdif k = refl
@@ -155,7 +155,7 @@ cell_over d {c} e = over d (Inside c) LF Begin true (rw e (after_line d true))
 
 -- the end of a character, in a cell or a comment
 module _ (d : Dialect) (g : Char → FileState) (bs : Bytes)
-    (next : (i : Inner) (b : ℕ) (c : Char) (xs : Bytes) → char_step (Within i) b ≡ On c → Completes d (g c) xs → Completes d (g (Within i)) (b ∷ xs))
+    (next : (i : Inner) (b : ℕ) (c : Char) (xs : Bytes) → char_step (Within i) b ≡ Some c → Completes d (g c) xs → Completes d (g (Within i)) (b ∷ xs))
     (end : Completes d (g Whole) bs) where
   last_on : Completes d (g (Within Last)) (0x80 ∷ bs)
   unfolding char_step inner_step choose◌then◌else◌
@@ -264,15 +264,15 @@ cell_completes d (Plain c) = char_on d (λ x. Inside (Plain x)) line (λ i b x x
 cell_completes d Complete = complete_on d
 
 -- a record from any state that begins one
-begin_line : (s : Settings) → begin_record (CsvPlus s) LF ≡ To Begin (Ends true)
+begin_line : (s : Settings) → begin_record (CsvPlus s) LF ≡ Ok (Begin, Ends true)
 unfolding begin_record in_cell
 begin_line s = rw (fresh_line s) (after_line (CsvPlus s) true)
 
-begin_quote : begin_record Tdif QUOTE ≡ To (Inside (Quoted Whole)) OfCell
+begin_quote : begin_record Tdif QUOTE ≡ Ok (Inside (Quoted Whole), OfCell)
 unfolding begin_record in_cell cell_step first_byte choose◌then◌else◌
 begin_quote = refl
 
-begin_empty : begin_record Csvj LF ≡ To Begin (Ends false)
+begin_empty : begin_record Csvj LF ≡ Ok (Begin, Ends false)
 unfolding begin_record choose◌then◌else◌
 begin_empty = refl
 
@@ -297,15 +297,15 @@ file_quote Csvj = refl
 file_quote Tdif = refl
 file_quote (CsvPlus s) = refl
 
-bom_one : (d : Dialect) → file_step d PlainBom1 0x80 ≡ To (Inside (Plain (Within Last))) OfCell
+bom_one : (d : Dialect) → file_step d PlainBom1 0x80 ≡ Ok (Inside (Plain (Within Last)), OfCell)
 unfolding file_step in_cell cell_step char_step inner_step row_of choose◌then◌else◌
 bom_one d = refl
 
-bom_two : (d : Dialect) → file_step d PlainBom2 0x80 ≡ To (Inside (Plain Whole)) OfCell
+bom_two : (d : Dialect) → file_step d PlainBom2 0x80 ≡ Ok (Inside (Plain Whole), OfCell)
 unfolding file_step in_cell cell_step char_step inner_step choose◌then◌else◌
 bom_two d = refl
 
-quote_wanted : (d : Dialect) → file_step d ExpectCell (quote_of d) ≡ To (Inside (Quoted Whole)) OfCell
+quote_wanted : (d : Dialect) → file_step d ExpectCell (quote_of d) ≡ Ok (Inside (Quoted Whole), OfCell)
 unfolding file_step in_cell choose◌then◌else◌
 quote_wanted d = rw (no_blank d, quote_opens d)
   where
@@ -338,11 +338,11 @@ completes d Cr = over d Cr LF Begin false refl
 
 -- ---- refused exactly where no continuation completes
 
-no_step : {A : Type 0} {e : ByteFault} {f : FileState} {p : ByteRole} (s : Step) → s ≡ Reject e → s ≡ To f p → A
+no_step : {A : Type 0} {e : ByteFault} {f : FileState} {p : ByteRole} (s : Step) → s ≡ Err e → s ≡ Ok (f, p) → A
 no_step s p q = let z : ◌≡◌ {A = ℕ} 0 1 = cc in absurd (omega arith)
 
 -- a refused byte is in no completion
-refused_dead : (d : Dialect) (f : FileState) (b : ℕ) (e : ByteFault) (bs : Bytes) → file_step d f b ≡ Reject e → Completes d f (b ∷ bs) → ⊥
+refused_dead : (d : Dialect) (f : FileState) (b : ℕ) (e : ByteFault) (bs : Bytes) → file_step d f b ≡ Err e → Completes d f (b ∷ bs) → ⊥
 refused_dead d f b e bs x (completed h) = no_step (file_step d f b) x h
 refused_dead d f b e bs x (onward h k) = no_step (file_step d f b) x h
 
@@ -352,14 +352,14 @@ Viable d f b = (bs : Bytes) × Completes d f (b ∷ bs)
 
 -- this byte is refused
 abbrev pub Refused : Dialect → FileState → ℕ → Type 0
-Refused d f b = (e : ByteFault) × (file_step d f b ≡ Reject e)
+Refused d f b = (e : ByteFault) × (file_step d f b ≡ Err e)
 
 refused_or_viable : (d : Dialect) (f : FileState) (b : ℕ) → Refused d f b ⊎ Viable d f b
 refused_or_viable d f b = go (file_step d f b) refl
   where
     go : (s : Step) → file_step d f b ≡ s → Refused d f b ⊎ Viable d f b
-    go (Reject e) h = inl (e, h)
-    go (To f' p) h = inr (completion d f', onward h (completes d f'))
+    go (Err e) h = inl (e, h)
+    go (Ok (f', p)) h = inr (completion d f', onward h (completes d f'))
 
 pub refused_iff : (d : Dialect) (f : FileState) (b : ℕ) → Refused d f b ↔ ¬ (Viable d f b)
 refused_iff d f b = (λ r v. refused_dead d f b r.0 v.0 r.1 v.1, back (refused_or_viable d f b))

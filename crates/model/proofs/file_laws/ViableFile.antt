@@ -6,11 +6,11 @@ use native.Mathlib.Omega.{arith}
 use mathlib.Core.Path.{◌≡◌, refl, sym, ap, ◌∙◌}
 use mathlib.Core.Logic.{◌↔◌}
 use mathlib.Core.Bool.{true, false}
-use mathlib.Core.Option.{Option}
+use Rattle.std.specs.Prelude.{Option}
 use mathlib.Core.List.{[], ◌∷◌, ◌++◌}
 use lib.ListN.{length, length-append}
 use Rattle.model.specs.rules.Types.{Dialect, Target, ByteFault, Encoding, Syntax, FileState, Top, ByteRole, Outside, Passed, OfCell, Between}
-use Rattle.model.specs.rules.Types.{Tail, Ends, Step, To, Reject, Fault, Byte, CheckResult, Sound, Faulty}
+use Rattle.model.specs.rules.Types.{Tail, Ends, Step, Ok, Err, Fault, Byte, CheckResult}
 use Rattle.model.specs.rules.Base.{Bytes, choose◌then◌else◌}
 use Rattle.model.specs.rules.File.{file_step}
 use Rattle.model.specs.rules.Records.{Read, Progress, going, stopped, nothing_read, record_fault, file_full, record_full, read_byte, read_from}
@@ -22,22 +22,23 @@ use Rattle.model.proofs.file_laws.Viable.{Viable, refused_iff}
 use Rattle.model.proofs.cell_laws.Encoding.{encoding_iff, syntax_whole}
 use Rattle.model.specs.rules.Report.{is_at_byte}
 use Rattle.model.proofs.file_laws.RecordFaults.{OfRecord, of_sound, of_fault, fault_record}
+use Rattle.model.proofs.file_laws.FileSteps.{step_parts}
 
 -- ---- the state of a file is the one that its bytes lead to, by form alone
 
 data Leads (d : Dialect) : FileState → Bytes → FileState → Type 0 where
   leads_here : {f : FileState} → Leads d f [] f
-  leads_on : {f f' g : FileState} {p : ByteRole} {b : ℕ} {bs : Bytes} → file_step d f b ≡ To f' p → Leads d f' bs g → Leads d f (b ∷ bs) g
+  leads_on : {f f' g : FileState} {p : ByteRole} {b : ℕ} {bs : Bytes} → file_step d f b ≡ Ok (f', p) → Leads d f' bs g → Leads d f (b ∷ bs) g
 
 leads_completes : {d : Dialect} {f g : FileState} {xs zs : Bytes} → Leads d f xs g → Completes d g zs → Completes d f (xs ++ zs)
 leads_completes leads_here k = k
 leads_completes (leads_on e l) k = onward e (leads_completes l k)
 
 next_completes :
-    (d : Dialect) (f f' : FileState) (p : ByteRole) (b : ℕ) (bs : Bytes) → file_step d f b ≡ To f' p → 0 < length bs →
+    (d : Dialect) (f f' : FileState) (p : ByteRole) (b : ℕ) (bs : Bytes) → file_step d f b ≡ Ok (f', p) → 0 < length bs →
     Completes d f (b ∷ bs) → Completes d f' bs
 next_completes d f f' p b bs e h (completed x) = absurd (omega arith)
-next_completes d f f' p b bs e h (onward {f' = g} x k) = let q : g ≡ f' = cc in rw q at k
+next_completes d f f' p b bs e h (onward x k) = rw (step_parts x e).0 at k
 
 completes_after : {d : Dialect} {f g : FileState} {xs : Bytes} (zs : Bytes) → 0 < length zs → Leads d f xs g → Completes d f (xs ++ zs) → Completes d g zs
 completes_after zs h leads_here k = k
@@ -46,28 +47,28 @@ completes_after {d} zs h (leads_on {f} {f'} {p} {b} {bs} e l) k =
     completes_after zs h l (next_completes d f f' p b (bs ++ zs) e n k)
 
 validated_form : {A : Type 0} (r next : Read) (v : CheckResult) (e : ByteFault) → OfRecord v → validated r next v ≡ stopped (Byte e) r → A
-validated_form r next Sound e of_sound h = let z : ◌≡◌ {A = ℕ} 0 1 = cc in absurd (omega arith)
-validated_form r next (Faulty x) e (of_fault k) h = let q : x ≡ Byte e = cc in impossible (sym k ∙ ap is_at_byte q)
+validated_form r next (Ok _) e of_sound h = let z : ◌≡◌ {A = ℕ} 0 1 = cc in absurd (omega arith)
+validated_form r next (Err x) e (of_fault k) h = let q : x ≡ Byte e = cc in impossible (sym k ∙ ap is_at_byte q)
 
 module _ (d : Dialect) (target : Option Target) where
   -- a byte that was read moved the file by form
   data Moves (r : Read) (b : ℕ) : Progress → Type 0 where
-    moves : {next : Read} {p : ByteRole} → file_step d r.state b ≡ To next.state p → Moves r b (going next)
+    moves : {next : Read} {p : ByteRole} → file_step d r.state b ≡ Ok (next.state, p) → Moves r b (going next)
     halts : {e : Fault} {at : Read} → Moves r b (stopped e at)
 
-  validated_moves : (r next : Read) (b : ℕ) (p : ByteRole) (v : CheckResult) → file_step d r.state b ≡ To next.state p → Moves r b (validated r next v)
-  validated_moves r next b p Sound e = moves e
-  validated_moves r next b p (Faulty x) e = halts
+  validated_moves : (r next : Read) (b : ℕ) (p : ByteRole) (v : CheckResult) → file_step d r.state b ≡ Ok (next.state, p) → Moves r b (validated r next v)
+  validated_moves r next b p (Ok _) e = moves e
+  validated_moves r next b p (Err x) e = halts
 
   move_moves : (r : Read) (b : ℕ) (s : Step) → file_step d r.state b ≡ s → Moves r b (move d target r b s)
   unfolding move complete
-  move_moves r b (Reject x) e = halts
-  move_moves r b (To f Outside) e = moves e
-  move_moves r b (To f Passed) e = moves e
-  move_moves r b (To f OfCell) e = moves e
-  move_moves r b (To f (Between k)) e = moves e
-  move_moves r b (To f (Tail k)) e = moves e
-  move_moves r b (To f (Ends k)) e = validated_moves r _ b (Ends k) (record_fault d target r.done (closing d k r)) e
+  move_moves r b (Err x) e = halts
+  move_moves r b (Ok (f, Outside)) e = moves e
+  move_moves r b (Ok (f, Passed)) e = moves e
+  move_moves r b (Ok (f, OfCell)) e = moves e
+  move_moves r b (Ok (f, Between k)) e = moves e
+  move_moves r b (Ok (f, Tail k)) e = moves e
+  move_moves r b (Ok (f, Ends k)) e = validated_moves r _ b (Ends k) (record_fault d target r.done (closing d k r)) e
 
   byte_moves : (r : Read) (b : ℕ) → Moves r b (read_byte d target r b)
   unfolding read_byte
@@ -78,15 +79,15 @@ module _ (d : Dialect) (target : Option Target) where
   no_stop x = let z : ◌≡◌ {A = ℕ} 0 1 = cc in absurd (omega arith)
 
   -- only a refusal by form is fault 2 or 3
-  move_refused : (r : Read) (b : ℕ) (s : Step) (e : ByteFault) → move d target r b s ≡ stopped (Byte e) r → s ≡ Reject e
+  move_refused : (r : Read) (b : ℕ) (s : Step) (e : ByteFault) → move d target r b s ≡ stopped (Byte e) r → s ≡ Err e
   unfolding move complete
-  move_refused r b (Reject x) e h = let q : x ≡ e = cc in ap Reject q
-  move_refused r b (To f Outside) e h = no_stop h
-  move_refused r b (To f Passed) e h = no_stop h
-  move_refused r b (To f OfCell) e h = no_stop h
-  move_refused r b (To f (Between k)) e h = no_stop h
-  move_refused r b (To f (Tail k)) e h = no_stop h
-  move_refused r b (To f (Ends k)) e h =
+  move_refused r b (Err x) e h = let q : x ≡ e = cc in ap Err q
+  move_refused r b (Ok (f, Outside)) e h = no_stop h
+  move_refused r b (Ok (f, Passed)) e h = no_stop h
+  move_refused r b (Ok (f, OfCell)) e h = no_stop h
+  move_refused r b (Ok (f, Between k)) e h = no_stop h
+  move_refused r b (Ok (f, Tail k)) e h = no_stop h
+  move_refused r b (Ok (f, Ends k)) e h =
       validated_form r _ (record_fault d target r.done (closing d k r)) e (fault_record d target r.done (closing d k r)) h
 
   no_going : {A : Type 0} {e : Fault} {at r : Read} → stopped e at ≡ going r → A
@@ -114,11 +115,11 @@ module _ (d : Dialect) (target : Option Target) where
     unfolding read_bytes read_from read_byte choose◌then◌else◌
     next_byte = rw (read_append, read, file, size)
 
-    rejected : (e : ByteFault) → file_step d r.state b ≡ Reject e → read_bytes d target (xs ++ (b ∷ [])) ≡ stopped (Byte e) r
+    rejected : (e : ByteFault) → file_step d r.state b ≡ Err e → read_bytes d target (xs ++ (b ∷ [])) ≡ stopped (Byte e) r
     unfolding move
     rejected e h = next_byte ∙ rw h
 
-    refused : (e : ByteFault) → read_bytes d target (xs ++ (b ∷ [])) ≡ stopped (Byte e) r → file_step d r.state b ≡ Reject e
+    refused : (e : ByteFault) → read_bytes d target (xs ++ (b ∷ [])) ≡ stopped (Byte e) r → file_step d r.state b ≡ Err e
     refused e h = move_refused r b (file_step d r.state b) e (sym next_byte ∙ h)
 
     viable_file : Viable d r.state b → CanGoOn d xs b

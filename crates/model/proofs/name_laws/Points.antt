@@ -4,7 +4,7 @@ use Prim.Native.Nat.{ℕ, zero, suc, ◌+◌, ◌-◌, ◌*◌, ◌/◌, ◌%◌
 use native.Mathlib.Omega.{arith}
 use mathlib.Core.Path.{◌≡◌, refl, sym, ap, ap₂, ◌∙◌}
 use mathlib.Core.Bool.{Bool, true, false}
-use mathlib.Core.Option.{Option, none, some}
+use Rattle.std.specs.Prelude.{Option, None, Some}
 use mathlib.Core.List.{List, [], ◌∷◌, ◌++◌, map}
 use lib.ListN.{length, drop, get_or}
 use lib.Dec.{leb}
@@ -22,26 +22,26 @@ use Rattle.model.proofs.name_laws.Folding.{pack_short, pack_pair, pack_three, pa
 -- ---- a step of content
 
 data WideOn (w : Wide) (b : ℕ) (bs : Bytes) : Type 0 where
-  wide_on : (w' : Wide) → wide_step w b ≡ some w' → wide_from w' bs ≡ true → WideOn w b bs
+  wide_on : (w' : Wide) → wide_step w b ≡ Some w' → wide_from w' bs ≡ true → WideOn w b bs
 
 steps_on : (w : Wide) (b : ℕ) (bs : Bytes) → wide_from w (b ∷ bs) ≡ true → WideOn w b bs
 unfolding wide_from
 steps_on w b bs e = go (wide_step w b) refl (by_step w e)
   where
-    by_step : (w : Wide) → wide_from w (b ∷ bs) ≡ true → (elim (wide_step w b) as (λ _. Bool) [ none ↦ false | some w' ↦ wide_from w' bs ]) ≡ true
+    by_step : (w : Wide) → wide_from w (b ∷ bs) ≡ true → (elim (wide_step w b) as (λ _. Bool) [ None ↦ false | Some w' ↦ wide_from w' bs ]) ≡ true
     by_step (gap h) e = e
     by_step (ed h) e = e
     by_step (lone h) e = e
     by_step (inner i) e = e
 
-    go : (o : Option Wide) → wide_step w b ≡ o → (elim o as (λ _. Bool) [ none ↦ false | some w' ↦ wide_from w' bs ]) ≡ true → WideOn w b bs
-    go none p k = impossible k
-    go (some w') p k = wide_on w' p k
+    go : (o : Option Wide) → wide_step w b ≡ o → (elim o as (λ _. Bool) [ None ↦ false | Some w' ↦ wide_from w' bs ]) ≡ true → WideOn w b bs
+    go None p k = impossible k
+    go (Some w') p k = wide_on w' p k
 
-no_step : {A : Type 0} {w : Wide} → none ≡ some w → A
+no_step : {A : Type 0} {w : Wide} → None ≡ Some w → A
 no_step e = let z : ◌≡◌ {A = ℕ} 0 1 = cc in absurd (omega arith)
 
-same_wide : {x y : Wide} → some x ≡ some y → x ≡ y
+same_wide : {x y : Wide} → Some x ≡ Some y → x ≡ y
 same_wide e = cc
 
 -- ---- later bytes
@@ -175,16 +175,16 @@ ed_begins h (b ∷ bs) e = go (steps_on (ed h) b bs e)
         (λ o. let r = within_true 0xB0 0xBF b o in let u : 0xB0 ≤ b = r.0 in low (omega arith) r.1 h (rw (p, t, o) at s) k) λ o.
         no_step (rw (p, t, o) at s)
       where
-        low : {w : Wide} → 0x80 ≤ b → b ≤ 0xBF → (g : Bool) → (choose g then none else some (lone false)) ≡ some w → wide_from w bs ≡ true → Begins (0xED ∷ b ∷ bs)
+        low : {w : Wide} → 0x80 ≤ b → b ≤ 0xBF → (g : Bool) → (choose g then None else Some (lone false)) ≡ Some w → wide_from w bs ≡ true → Begins (0xED ∷ b ∷ bs)
         low x y true s k = no_step s
         low x y false s k = let q = same_wide s in made x y (lone_last false bs (rw (← q) at k))
 
-lead_begins : (ls : List Lead) (h : Bool) (a : ℕ) (bs : Bytes) (w : Wide) → settle (lead_byte ls a) ≡ some w → wide_from w bs ≡ true → Begins (a ∷ bs)
+lead_begins : (ls : List Lead) (h : Bool) (a : ℕ) (bs : Bytes) (w : Wide) → settle (lead_byte ls a) ≡ Some w → wide_from w bs ≡ true → Begins (a ∷ bs)
 unfolding lead_byte choose◌then◌else◌
 lead_begins [] h a bs w s k = no_step s
 lead_begins (l ∷ ls) h a bs w s k = go (within (row_of l).lo (row_of l).hi a) refl (lead_begins ls h a bs w)
   where
-    go : (t : Bool) → within (row_of l).lo (row_of l).hi a ≡ t → (settle (lead_byte ls a) ≡ some w → wide_from w bs ≡ true → Begins (a ∷ bs)) → Begins (a ∷ bs)
+    go : (t : Bool) → within (row_of l).lo (row_of l).hi a ≡ t → (settle (lead_byte ls a) ≡ Some w → wide_from w bs ≡ true → Begins (a ∷ bs)) → Begins (a ∷ bs)
     go true p ih = let q : inner (Second l) ≡ w = same_wide (rw p at s) in let r = within_true (row_of l).lo (row_of l).hi a p in row_begins l a bs r.0
         r.1 (rw (← q) at k)
     go false p ih = ih (rw p at s) k

@@ -2,7 +2,7 @@
 -- ledger does after the calls made so far, then the answers to any list of calls are the ledger's.
 use Prim.Native.Nat.{ℕ}
 use mathlib.Core.Path.{◌≡◌, refl, sym, ap, ◌∙◌}
-use mathlib.Core.Option.{none, some}
+use Rattle.std.specs.Prelude.{None, Some}
 use mathlib.Core.List.{List, [], ◌∷◌, ◌++◌, map, map-append}
 use Rattle.model.specs.rules.Types.{Dialect}
 use Rattle.model.specs.rules.Dialect.{dialect_of, into}
@@ -29,17 +29,17 @@ module _ (m n : ℕ) where
 
   -- one call's answer where both numbers are dialects
   pub answer_known :
-      (d t : Dialect) (past : List Entry) (c : Call) → dialect_of m ≡ some d → dialect_of n ≡ some t →
+      (d t : Dialect) (past : List Entry) (c : Call) → dialect_of m ≡ Some d → dialect_of n ≡ Some t →
       answer_now m n past c ≡ answer_to d (into t) past c
   unfolding answer_now
   answer_known d t past c p q = rw (p, answer_now, q)
 
   -- and where one is none
-  pub answer_source : (past : List Entry) (c : Call) → dialect_of m ≡ none → answer_now m n past c ≡ unwritten (refusal 11)
+  pub answer_source : (past : List Entry) (c : Call) → dialect_of m ≡ None → answer_now m n past c ≡ unwritten (refusal 11)
   unfolding answer_now
   answer_source past c p = rw (p, answer_now)
 
-  pub answer_target : (d : Dialect) (past : List Entry) (c : Call) → dialect_of m ≡ some d → dialect_of n ≡ none → answer_now m n past c ≡ unwritten (refusal 11)
+  pub answer_target : (d : Dialect) (past : List Entry) (c : Call) → dialect_of m ≡ Some d → dialect_of n ≡ None → answer_now m n past c ≡ unwritten (refusal 11)
   unfolding answer_now
   answer_target d past c p q = rw (p, answer_now, q)
 

@@ -2,7 +2,7 @@
 use Prim.Native.Nat.{ℕ}
 use mathlib.Core.Path.{◌≡◌, refl, sym, ap, ◌∙◌}
 use mathlib.Core.Bool.{true, false}
-use mathlib.Core.Option.{Option, none, some}
+use Rattle.std.specs.Prelude.{Option, None, Some}
 use mathlib.Core.List.{List, [], ◌∷◌, ◌++◌, append_assoc, append-nil}
 use lib.ListN.{length, drop}
 use lib.Seq.{drop-append_seam, drop-length}
@@ -35,14 +35,14 @@ module _ (d : Dialect) (t : Target) where
   text_of p = table_text t (rows (records_of p))
 
   -- what a call has read, from the reading state
-  seen_from_lem : (xs : Bytes) (r : Read) (c : Call) → read_bytes d (some t) xs ≡ going r → seen_by d t c (xs ++ bytes_of c) ≡ seen_from d t r c
+  seen_from_lem : (xs : Bytes) (r : Read) (c : Call) → read_bytes d (Some t) xs ≡ going r → seen_by d t c (xs ++ bytes_of c) ≡ seen_from d t r c
   unfolding read_bytes read_file
-  seen_from_lem xs r (piece bs room) e = read_append d (some t) (going nothing_read) xs bs ∙ ap (λ p. read_from d (some t) p bs) e
-  seen_from_lem xs r (finish room) e = rw append-nil (ap (read_end d (some t)) e)
+  seen_from_lem xs r (piece bs room) e = read_append d (Some t) (going nothing_read) xs bs ∙ ap (λ p. read_from d (Some t) p bs) e
+  seen_from_lem xs r (finish room) e = rw append-nil (ap (read_end d (Some t)) e)
 
   seen_grows : (r : Read) (c : Call) → Grows r.done (records_of (seen_from d t r c))
-  seen_grows r (piece bs room) = read_grows d (some t) (going r) bs
-  seen_grows r (finish room) = end_grows d (some t) (going r)
+  seen_grows r (piece bs room) = read_grows d (Some t) (going r) bs
+  seen_grows r (finish room) = end_grows d (Some t) (going r)
 
   machine_answers : (past : List Entry) (w : ConverterStage) (c : Call) → LiesAt d t past w → answer_to d t past c ≡ answer_at d t w c
   unfolding answer_at choose◌then◌else◌
@@ -67,8 +67,8 @@ module _ (d : Dialect) (t : Target) where
   silent past c e = written_append (made c (unwritten e)) past ∙ append-nil (written_in past)
 
   -- a call that is taken, with what it has read
-  module _ (past : List Entry) (r : Read) (k : fault_in past ≡ none) (h : ended_in past ≡ false)
-      (b : read_bytes d (some t) (consumed_in past) ≡ going r) (w : written_in past ≡ table_text t (rows r.done)) where
+  module _ (past : List Entry) (r : Read) (k : fault_in past ≡ None) (h : ended_in past ≡ false)
+      (b : read_bytes d (Some t) (consumed_in past) ≡ going r) (w : written_in past ≡ table_text t (rows r.done)) where
     -- a call that was too small
     stays_taking : (c : Call) → LiesAt d t (past ++ made c (unwritten (refusal 10))) (taking r)
     unfolding fault_in ended_in consumed_in choose◌then◌else◌
@@ -99,7 +99,7 @@ module _ (d : Dialect) (t : Target) where
     meets c f r' e g =
         let x : List Entry = made c (taken t (table_text t (rows r.done)) (stopped f r')) in
         let n : within 1 9 (number_of f) ≡ true = fault_number f in
-        let met : fault_in x ≡ some (fault_report f r') = rw n in
+        let met : fault_in x ≡ Some (fault_report f r') = rw n in
         let last : consumed_in x ≡ bytes_of c = rw n in
         let all : consumed_in (past ++ x) ≡ consumed_in past ++ bytes_of c = consumed_none x past k ∙ ap (λ l. consumed_in past ++ l) last in
         let end : closed_in x ≡ is_finish c = rw n in
@@ -120,18 +120,18 @@ module _ (d : Dialect) (t : Target) where
     takes (piece bs room) (going r') e g =
         let x : List Entry = made (piece bs room) (taken t (table_text t (rows r.done)) (going r')) in
         let same : consumed_in (past ++ x) ≡ consumed_in past ++ bs = consumed_none x past k ∙ ap (λ l. consumed_in past ++ l) (append-nil bs) in
-        let to : read_bytes d (some t) (consumed_in past ++ bs) ≡ going r' = seen_from_lem (consumed_in past) r (piece bs room) b ∙ e in
+        let to : read_bytes d (Some t) (consumed_in past ++ bs) ≡ going r' = seen_from_lem (consumed_in past) r (piece bs room) b ∙ e in
         stood_taking {r = r'} (fault_none x past k) (ended_append x past ∙ rw h) (rw same to) (written (piece bs room) (going r') g)
     takes (finish room) (going r') e g =
         let x : List Entry = made (finish room) (taken t (table_text t (rows r.done)) (going r')) in
         let same : consumed_in (past ++ x) ≡ consumed_in past ++ [] = consumed_none x past k in
-        let to : read_file d (some t) (consumed_in past ++ []) ≡ going r' = seen_from_lem (consumed_in past) r (finish room) b ∙ e in
+        let to : read_file d (Some t) (consumed_in past ++ []) ≡ going r' = seen_from_lem (consumed_in past) r (finish room) b ∙ e in
         stood_ended r' (fault_none x past k) (ended_append x past ∙ rw h) (rw same to) (written (finish room) (going r') g)
     takes c (stopped f r') e g = meets c f r' (seen_from_lem (consumed_in past) r c b ∙ e) g
 
   -- a call after a fault
   stays_faulted :
-      (past : List Entry) (c : Call) (e : Report) (f : Fault) (r : Read) → e ≡ fault_report f r → fault_in past ≡ some e → seen_in d t past ≡ stopped f r →
+      (past : List Entry) (c : Call) (e : Report) (f : Fault) (r : Read) → e ≡ fault_report f r → fault_in past ≡ Some e → seen_in d t past ≡ stopped f r →
       written_in past ≡ table_text t (rows r.done) → LiesAt d t (past ++ made c (unwritten e)) (faulted e)
   stays_faulted past c e f r z k s w =
       let x : List Entry = made c (unwritten e) in
@@ -139,7 +139,7 @@ module _ (d : Dialect) (t : Target) where
 
   -- a call after the end
   stays_ended :
-      (past : List Entry) (c : Call) (r : Read) → fault_in past ≡ none → ended_in past ≡ true → read_file d (some t) (consumed_in past) ≡ going r →
+      (past : List Entry) (c : Call) (r : Read) → fault_in past ≡ None → ended_in past ≡ true → read_file d (Some t) (consumed_in past) ≡ going r →
       written_in past ≡ table_text t (rows r.done) → LiesAt d t (past ++ made c (unwritten (refusal 11))) ended
   unfolding fault_in consumed_in choose◌then◌else◌
   stays_ended past c r k h b w =
@@ -166,7 +166,7 @@ module _ (d : Dialect) (t : Target) where
   machine_leaves ended c s = refl
 
   machine_checks :
-      (m n : ℕ) (u : Dialect) → dialect_of m ≡ some d → dialect_of n ≡ some u → (past : List Entry) (w : ConverterStage) (c : Call) →
+      (m n : ℕ) (u : Dialect) → dialect_of m ≡ Some d → dialect_of n ≡ Some u → (past : List Entry) (w : ConverterStage) (c : Call) →
       LiesAt d t past w → checked m n past c ≡ checked_at w c
   unfolding checked
   machine_checks m n u p q past (taking r) c (stood_taking k h b w) = rw (p, checked, q, k, h)
@@ -185,7 +185,7 @@ machine m n d t p q =
 
 -- ---- every list of calls
 
-module _ (m n : ℕ) (d t : Dialect) (p : dialect_of m ≡ some d) (q : dialect_of n ≡ some t) where
+module _ (m n : ℕ) (d t : Dialect) (p : dialect_of m ≡ Some d) (q : dialect_of n ≡ Some t) where
   -- the stage after a list of calls
   stood_from :
       (past : List Entry) (cs : List Call) (w : ConverterStage) → LiesAt d (into t) past w →
@@ -221,9 +221,9 @@ unknown =
       target = λ m n q. target m n q (dialect_of m) refl;
     }
   where
-    target : (m n : ℕ) → dialect_of n ≡ none → (x : Option Dialect) → dialect_of m ≡ x → UnknownLaws m n
-    target m n q none p = record { answers = λ past c. answer_source m n past c p; checks = λ past c. rw (p, checked) }
-    target m n q (some d) p = record { answers = λ past c. answer_target m n d past c p q; checks = λ past c. rw (p, checked, q) }
+    target : (m n : ℕ) → dialect_of n ≡ None → (x : Option Dialect) → dialect_of m ≡ x → UnknownLaws m n
+    target m n q None p = record { answers = λ past c. answer_source m n past c p; checks = λ past c. rw (p, checked) }
+    target m n q (Some d) p = record { answers = λ past c. answer_target m n d past c p q; checks = λ past c. rw (p, checked, q) }
 
 -- ---- what a call writes
 

@@ -6,7 +6,7 @@ use mathlib.Core.Bool.{Bool, true, false}
 use mathlib.Core.List.{[], ◌∷◌, ◌++◌, map, append_assoc}
 use lib.ListN.{length, take, drop, get_or, length-append, length-drop}
 use lib.Seq.{take-suc, drop-cons, get_or-drop}
-use Rattle.model.specs.rules.Types.{Dialect, Outside, Passed, OfCell, Between, Tail, Ends, Step, To, Reject}
+use Rattle.model.specs.rules.Types.{Dialect, Outside, Passed, OfCell, Between, Tail, Ends, Step, Ok, Err}
 use Rattle.model.specs.rules.Base.{Bytes}
 use Rattle.model.specs.rules.File.{file_step}
 use Rattle.model.specs.rules.Decode.{kind_of, content_of}
@@ -65,17 +65,17 @@ module _ (bytes : Bytes) where
 
     step_in : (x : Step) → ScanResultIn bytes (scan_step s b bs (λ s'. scan d limit s' bs) x)
     unfolding scan_step
-    step_in (Reject f) = fails_in i
-    step_in (To f Outside) = ih _ left (record { raw = part_none (suc s.offset); forward = omega arith; within = inside; cells = all_none })
-    step_in (To f Passed) = ih _ left (record { raw = part_none (suc s.offset); forward = omega arith; within = inside; cells = all_none })
-    step_in (To f OfCell) =
+    step_in (Err f) = fails_in i
+    step_in (Ok (f, Outside)) = ih _ left (record { raw = part_none (suc s.offset); forward = omega arith; within = inside; cells = all_none })
+    step_in (Ok (f, Passed)) = ih _ left (record { raw = part_none (suc s.offset); forward = omega arith; within = inside; cells = all_none })
+    step_in (Ok (f, OfCell)) =
         let l : s.opened ≤ s.offset = i.forward in
         let raw : s.raw ++ (b ∷ []) ≡ slice bytes s.opened (suc s.offset)
         = ap (λ r. r ++ (b ∷ [])) i.raw ∙ part_more s.opened s.offset b bs l e in
         ih _ left (record { raw = raw; forward = omega arith; within = inside; cells = i.cells })
-    step_in (To f (Between k)) = ih _ left (record { raw = part_none (suc s.offset); forward = omega arith; within = inside; cells = closing_in k s i })
-    step_in (To f (Tail k)) = ih _ left (record { raw = part_none (suc s.offset); forward = omega arith; within = inside; cells = closing_in k s i })
-    step_in (To f (Ends k)) = completes_in i (closing_in k s i) inside left
+    step_in (Ok (f, Between k)) = ih _ left (record { raw = part_none (suc s.offset); forward = omega arith; within = inside; cells = closing_in k s i })
+    step_in (Ok (f, Tail k)) = ih _ left (record { raw = part_none (suc s.offset); forward = omega arith; within = inside; cells = closing_in k s i })
+    step_in (Ok (f, Ends k)) = completes_in i (closing_in k s i) inside left
 
   comes : (d : Dialect) (limit : ℕ) (bs : Bytes) → Comes d limit bs
   unfolding scan

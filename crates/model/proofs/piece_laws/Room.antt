@@ -6,11 +6,11 @@ use Prim.Native.Nat.{ℕ, suc, ◌+◌, ◌*◌, ◌≤◌, min}
 use native.Mathlib.Omega.{arith}
 use mathlib.Core.Path.{◌≡◌, refl, ap, ◌∙◌}
 use mathlib.Core.Bool.{true}
-use mathlib.Core.Option.{some}
+use Rattle.std.specs.Prelude.{Some}
 use mathlib.Core.List.{List, [], ◌∷◌, ◌++◌}
 use lib.ListN.{length, length-append}
-use Rattle.model.specs.rules.Types.{Dialect, Csvj, Tdif, CsvPlus, Target, CheckResult, Sound, Faulty, FileState, Begin, Outside, Passed, OfCell}
-use Rattle.model.specs.rules.Types.{Between, Tail, Ends, Step, To, Reject, Ending, Clean, Final, Cut}
+use Rattle.model.specs.rules.Types.{Dialect, Csvj, Tdif, CsvPlus, Target, CheckResult, Ok, Err, FileState, Begin, Outside, Passed, OfCell}
+use Rattle.model.specs.rules.Types.{Between, Tail, Ends, Step, Ending, Clean, Final, Cut}
 use Rattle.model.specs.rules.Base.{Bytes, is_empty}
 use Rattle.model.specs.rules.File.{file_step, file_end}
 use Rattle.model.specs.rules.Text.{Value, record_text, table_text, ending}
@@ -59,19 +59,19 @@ module _ (d : Dialect) (t : Target) where
   written_cost (stopped e r) = omega arith
 
   complete_cost :
-      (r : Read) (vs : List Value) (f : FileState) (o : ℕ) → All BoundedRecord (records_of (complete d (some t) r vs f o)) →
-      cost (complete d (some t) r vs f o) ≤ cost (going r) + 6
+      (r : Read) (vs : List Value) (f : FileState) (o : ℕ) → All BoundedRecord (records_of (complete d (Some t) r vs f o)) →
+      cost (complete d (Some t) r vs f o) ≤ cost (going r) + 6
   unfolding complete
-  complete_cost r vs f o = go (record_fault d (some t) r.done vs) refl
+  complete_cost r vs f o = go (record_fault d (Some t) r.done vs) refl
     where
       x : Rec
       x = record { start = r.start; size = r.size; cells = vs }
 
       go :
-          (v : CheckResult) → record_fault d (some t) r.done vs ≡ v →
+          (v : CheckResult) → record_fault d (Some t) r.done vs ≡ v →
           All BoundedRecord (records_of (validated r (between_records (r.done ++ (x ∷ [])) f o) v)) →
           cost (validated r (between_records (r.done ++ (x ∷ [])) f o) v) ≤ cost (going r) + 6
-      go Sound e all =
+      go (Ok _) e all =
           let c = record_carried d t r.done vs e in
           let text : length (record_text t (is_empty r.done) vs) ≤ 4096 = c.short in
           let len : length (record_text t (is_empty r.done) vs ++ ending t.dialect)
@@ -83,33 +83,33 @@ module _ (d : Dialect) (t : Target) where
           ≡ written_for r.done + length (record_text t (is_empty r.done) vs ++ ending t.dialect)
           = writes r.done x in
           omega arith
-      go (Faulty e) k all = omega arith
+      go (Err e) k all = omega arith
 
-  move_cost : (r : Read) (b : ℕ) (s : Step) → All BoundedRecord (records_of (move d (some t) r b s)) → cost (move d (some t) r b s) ≤ cost (going r) + 6
+  move_cost : (r : Read) (b : ℕ) (s : Step) → All BoundedRecord (records_of (move d (Some t) r b s)) → cost (move d (Some t) r b s) ≤ cost (going r) + 6
   unfolding move
-  move_cost r b (Reject e) all = omega arith
-  move_cost r b (To f Outside) all = omega arith
-  move_cost r b (To f Passed) all = omega arith
-  move_cost r b (To f OfCell) all = omega arith
-  move_cost r b (To f (Between k)) all = omega arith
-  move_cost r b (To f (Tail k)) all = omega arith
-  move_cost r b (To f (Ends k)) all = complete_cost r (closing d k r) f (suc r.offset) all
+  move_cost r b (Err e) all = omega arith
+  move_cost r b (Ok (f, Outside)) all = omega arith
+  move_cost r b (Ok (f, Passed)) all = omega arith
+  move_cost r b (Ok (f, OfCell)) all = omega arith
+  move_cost r b (Ok (f, Between k)) all = omega arith
+  move_cost r b (Ok (f, Tail k)) all = omega arith
+  move_cost r b (Ok (f, Ends k)) all = complete_cost r (closing d k r) f (suc r.offset) all
 
-  byte_cost : (r : Read) (b : ℕ) → All BoundedRecord (records_of (read_byte d (some t) r b)) → cost (read_byte d (some t) r b) ≤ cost (going r) + 6
+  byte_cost : (r : Read) (b : ℕ) → All BoundedRecord (records_of (read_byte d (Some t) r b)) → cost (read_byte d (Some t) r b) ≤ cost (going r) + 6
   unfolding read_byte
   byte_cost r b =
       let P : Progress → Type 0 = λ p. All BoundedRecord (records_of p) → cost p ≤ cost (going r) + 6 in
       split P _ (λ _ _. omega arith) λ _. split P _ (λ _ _. omega arith) λ _. move_cost r b (file_step d r.state b)
 
-  read_cost : (p : Progress) (xs : Bytes) → All BoundedRecord (records_of (read_from d (some t) p xs)) → cost (read_from d (some t) p xs) ≤ cost p + 6 * length xs
+  read_cost : (p : Progress) (xs : Bytes) → All BoundedRecord (records_of (read_from d (Some t) p xs)) → cost (read_from d (Some t) p xs) ≤ cost p + 6 * length xs
   unfolding read_from
   read_cost p [] all = omega arith
   read_cost (stopped e r) (x ∷ xs) all = omega arith
   read_cost (going r) (x ∷ xs) all =
-      let q : Progress = read_byte d (some t) r x in
-      let g = read_grows d (some t) q xs in
+      let q : Progress = read_byte d (Some t) r x in
+      let g = read_grows d (Some t) q xs in
       let first : All BoundedRecord (records_of q) = all_left (records_of q) g.added (rw g.sum at all) in
-      let a : cost (read_from d (some t) q xs) ≤ cost q + 6 * length xs = read_cost q xs all in
+      let a : cost (read_from d (Some t) q xs) ≤ cost q + 6 * length xs = read_cost q xs all in
       let b : cost q ≤ cost (going r) + 6 = byte_cost r x first in
       omega arith
 
@@ -117,31 +117,31 @@ module _ (d : Dialect) (t : Target) where
   between_cost r [] = omega arith
   between_cost r (h ∷ rs) = omega arith
 
-  at_end_cost : (r : Read) (x : Ending) → All BoundedRecord (records_of (end_at d (some t) r x)) → cost (end_at d (some t) r x) ≤ cost (going r) + 6
+  at_end_cost : (r : Read) (x : Ending) → All BoundedRecord (records_of (end_at d (Some t) r x)) → cost (end_at d (Some t) r x) ≤ cost (going r) + 6
   at_end_cost r Clean all = between_cost r r.done
   at_end_cost r Final all = complete_cost r (closing d true r) Begin r.offset all
   at_end_cost r Cut all = omega arith
 
   -- after a piece
   pub piece_writes :
-      (xs bs : Bytes) (r : Read) → read_bytes d (some t) xs ≡ going r → length bs ≤ 4096 →
-      written_for (records_of (read_bytes d (some t) (xs ++ bs))) ≤ written_for r.done + 49152
+      (xs bs : Bytes) (r : Read) → read_bytes d (Some t) xs ≡ going r → length bs ≤ 4096 →
+      written_for (records_of (read_bytes d (Some t) (xs ++ bs))) ≤ written_for r.done + 49152
   unfolding read_bytes
   piece_writes xs bs r e h =
-      let q : Progress = read_from d (some t) (going r) bs in
-      let to : read_bytes d (some t) (xs ++ bs) ≡ q = read_append d (some t) (going nothing_read) xs bs ∙ ap (λ p. read_from d (some t) p bs) e in
-      let all : All BoundedRecord (records_of (read_bytes d (some t) (xs ++ bs))) = records_bounded d (some t) (xs ++ bs) in
+      let q : Progress = read_from d (Some t) (going r) bs in
+      let to : read_bytes d (Some t) (xs ++ bs) ≡ q = read_append d (Some t) (going nothing_read) xs bs ∙ ap (λ p. read_from d (Some t) p bs) e in
+      let all : All BoundedRecord (records_of (read_bytes d (Some t) (xs ++ bs))) = records_bounded d (Some t) (xs ++ bs) in
       let a : cost q ≤ cost (going r) + 6 * length bs = read_cost (going r) bs (rw to at all) in
       let b : written_for (records_of q) ≤ cost q = written_cost q in
       rw to (omega arith)
 
   -- at the end
-  pub end_writes : (xs : Bytes) (r : Read) → read_bytes d (some t) xs ≡ going r → written_for (records_of (read_file d (some t) xs)) ≤ written_for r.done + 49152
+  pub end_writes : (xs : Bytes) (r : Read) → read_bytes d (Some t) xs ≡ going r → written_for (records_of (read_file d (Some t) xs)) ≤ written_for r.done + 49152
   unfolding read_file read_end
   end_writes xs r e =
-      let q : Progress = end_at d (some t) r (file_end d r.state) in
-      let to : read_file d (some t) xs ≡ q = ap (read_end d (some t)) e in
-      let all : All BoundedRecord (records_of (read_file d (some t) xs)) = records_bounded_file d (some t) xs in
+      let q : Progress = end_at d (Some t) r (file_end d r.state) in
+      let to : read_file d (Some t) xs ≡ q = ap (read_end d (Some t)) e in
+      let all : All BoundedRecord (records_of (read_file d (Some t) xs)) = records_bounded_file d (Some t) xs in
       let a : cost q ≤ cost (going r) + 6 = at_end_cost r (file_end d r.state) (rw to at all) in
       let b : written_for (records_of q) ≤ cost q = written_cost q in
       rw to (omega arith)
@@ -149,30 +149,30 @@ module _ (d : Dialect) (t : Target) where
   -- ---- the whole output
 
   -- one record more has room
-  record_output : (ds : List Rec) (x : Rec) → written_for ds ≤ MAXFILE → record_fault d (some t) ds x.cells ≡ Sound → written_for (ds ++ (x ∷ [])) ≤ MAXFILE
+  record_output : (ds : List Rec) (x : Rec) → written_for ds ≤ MAXFILE → record_fault d (Some t) ds x.cells ≡ Ok tt → written_for (ds ++ (x ∷ [])) ≤ MAXFILE
   record_output ds x h e =
       let all : written_for ds + length (record_text t (is_empty ds) x.cells ++ ending t.dialect) ≤ MAXFILE = (record_carried d t ds x.cells e).fits in
       let sum : written_for (ds ++ (x ∷ [])) ≡ written_for ds + length (record_text t (is_empty ds) x.cells ++ ending t.dialect) = writes ds x in
       omega arith
 
   -- what a whole file is converted to has room in a file
-  pub file_output : (xs : Bytes) → written_for (records_of (read_file d (some t) xs)) ≤ MAXFILE
+  pub file_output : (xs : Bytes) → written_for (records_of (read_file d (Some t) xs)) ≤ MAXFILE
   unfolding table_text rows
-  file_output xs = file_keeps d (some t) (λ (ds : List Rec). written_for ds ≤ MAXFILE) record_output (omega arith) xs
+  file_output xs = file_keeps d (Some t) (λ (ds : List Rec). written_for ds ≤ MAXFILE) record_output (omega arith) xs
 
   -- six bytes for each byte of a file, and six more, are room enough for what it is converted to
-  pub file_room : (xs : Bytes) → written_for (records_of (read_file d (some t) xs)) ≤ 6 * (length xs + 1)
+  pub file_room : (xs : Bytes) → written_for (records_of (read_file d (Some t) xs)) ≤ 6 * (length xs + 1)
   unfolding read_file read_bytes read_end nothing_read table_text rows
   file_room xs =
-      by_end (read_from d (some t) (going nothing_read) xs) (records_bounded_file d (some t) xs)
-      (read_cost (going nothing_read) xs (records_bounded d (some t) xs))
+      by_end (read_from d (Some t) (going nothing_read) xs) (records_bounded_file d (Some t) xs)
+      (read_cost (going nothing_read) xs (records_bounded d (Some t) xs))
     where
       by_end :
-          (q : Progress) → All BoundedRecord (records_of (read_end d (some t) q)) → cost q ≤ cost (going nothing_read) + 6 * length xs →
-          written_for (records_of (read_end d (some t) q)) ≤ 6 * (length xs + 1)
+          (q : Progress) → All BoundedRecord (records_of (read_end d (Some t) q)) → cost q ≤ cost (going nothing_read) + 6 * length xs →
+          written_for (records_of (read_end d (Some t) q)) ≤ 6 * (length xs + 1)
       by_end (stopped e r) all h = omega arith
       by_end (going r) all h =
-          let q : Progress = end_at d (some t) r (file_end d r.state) in
+          let q : Progress = end_at d (Some t) r (file_end d r.state) in
           let a : cost q ≤ cost (going r) + 6 = at_end_cost r (file_end d r.state) all in
           let b : written_for (records_of q) ≤ cost q = written_cost q in
           omega arith

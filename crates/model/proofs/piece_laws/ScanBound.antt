@@ -3,10 +3,10 @@
 use Prim.Native.Nat.{ℕ, suc, ◌+◌, ◌≤◌}
 use native.Mathlib.Omega.{arith}
 use mathlib.Core.Path.{subst}
-use mathlib.Core.Option.{none}
+use Rattle.std.specs.Prelude.{None}
 use mathlib.Core.List.{List, [], ◌∷◌, map}
 use lib.ListN.{length}
-use Rattle.model.specs.rules.Types.{Dialect, FileState, Outside, Passed, OfCell, Between, Tail, Ends, Step, To, Reject, Fault}
+use Rattle.model.specs.rules.Types.{Dialect, FileState, Outside, Passed, OfCell, Between, Tail, Ends, Step, Ok, Err, Fault}
 use Rattle.model.specs.rules.Base.{Bytes}
 use Rattle.model.specs.rules.File.{file_step}
 use Rattle.model.specs.rules.Text.{Value}
@@ -27,30 +27,30 @@ module _ (d : Dialect) (limit : ℕ) where
         {s : Scan} {cs : List RawCell} {f : FileState} {next : ℕ} {left : Bytes} → Bounded s.size (map (value_of d) cs) → suc s.size + length left ≤ room →
         Fitting room (completes s cs f next left)
 
-  counted_of : {r : Read} → CountedTo d none (going r) → Counted d none r
+  counted_of : {r : Read} → CountedTo d None (going r) → Counted d None r
   counted_of (c_going i) = i
 
   abbrev Fits : Bytes → Type 0
-  Fits bs = (s : Scan) (room : ℕ) → Counted d none (read_of d [] s) → s.size + length bs ≤ room → Fitting room (scan d limit s bs)
+  Fits bs = (s : Scan) (room : ℕ) → Counted d None (read_of d [] s) → s.size + length bs ≤ room → Fitting room (scan d limit s bs)
 
   step_fits :
-      (s : Scan) (b : ℕ) (bs : Bytes) (room : ℕ) → Fits bs → Counted d none (read_of d [] s) → s.size + suc (length bs) ≤ room →
+      (s : Scan) (b : ℕ) (bs : Bytes) (room : ℕ) → Fits bs → Counted d None (read_of d [] s) → s.size + suc (length bs) ≤ room →
       (x : Step) → Steady s.state x →
       Fitting room (scan_step s b bs (λ s'. scan d limit s' bs) x)
   unfolding scan_step move
-  step_fits s b bs room ih i l (Reject e) y = fit_fails
-  step_fits s b bs room ih i l (To f Outside) y = ih _ room (counted_of (move_counted d none (read_of d [] s) b (To f Outside) i y)) (omega arith)
-  step_fits s b bs room ih i l (To f Passed) y = ih _ room (counted_of (move_counted d none (read_of d [] s) b (To f Passed) i y)) (omega arith)
-  step_fits s b bs room ih i l (To f OfCell) y = ih _ room (counted_of (move_counted d none (read_of d [] s) b (To f OfCell) i y)) (omega arith)
-  step_fits s b bs room ih i l (To f (Between k)) y =
-      ih _ room (rw (values_closing d none [] k s) at (counted_of (move_counted d none (read_of d [] s) b (To f (Between k)) i y))) (omega arith)
-  step_fits s b bs room ih i l (To f (Tail k)) y =
-      ih _ room (rw (values_closing d none [] k s) at (counted_of (move_counted d none (read_of d [] s) b (To f (Tail k)) i y))) (omega arith)
-  step_fits s b bs room ih i l (To f (Ends k)) (y_ends z) =
+  step_fits s b bs room ih i l (Err e) y = fit_fails
+  step_fits s b bs room ih i l (Ok (f, Outside)) y = ih _ room (counted_of (move_counted d None (read_of d [] s) b (Ok (f, Outside)) i y)) (omega arith)
+  step_fits s b bs room ih i l (Ok (f, Passed)) y = ih _ room (counted_of (move_counted d None (read_of d [] s) b (Ok (f, Passed)) i y)) (omega arith)
+  step_fits s b bs room ih i l (Ok (f, OfCell)) y = ih _ room (counted_of (move_counted d None (read_of d [] s) b (Ok (f, OfCell)) i y)) (omega arith)
+  step_fits s b bs room ih i l (Ok (f, Between k)) y =
+      ih _ room (rw (values_closing d None [] k s) at (counted_of (move_counted d None (read_of d [] s) b (Ok (f, Between k)) i y))) (omega arith)
+  step_fits s b bs room ih i l (Ok (f, Tail k)) y =
+      ih _ room (rw (values_closing d None [] k s) at (counted_of (move_counted d None (read_of d [] s) b (Ok (f, Tail k)) i y))) (omega arith)
+  step_fits s b bs room ih i l (Ok (f, Ends k)) (y_ends z) =
       let m : suc s.size + length bs ≤ room = omega arith in
-      fit_completes (subst (λ (vs : List Value). Bounded s.size vs) (values_closing d none [] k s) (closed_bound d none (read_of d [] s) k i z)) m
-  step_fits s b bs room ih i l (To f (Ends k)) y_over =
-      let m : suc s.size + length bs ≤ room = omega arith in fit_completes (over_bound d none (read_of d [] s) i) m
+      fit_completes (subst (λ (vs : List Value). Bounded s.size vs) (values_closing d None [] k s) (closed_bound d None (read_of d [] s) k i z)) m
+  step_fits s b bs room ih i l (Ok (f, Ends k)) y_over =
+      let m : suc s.size + length bs ≤ room = omega arith in fit_completes (over_bound d None (read_of d [] s) i) m
 
   fits : (bs : Bytes) → Fits bs
   unfolding scan

@@ -3,11 +3,11 @@ use Prim.Native.Nat.{ℕ, suc, ◌+◌, ◌-◌, ◌≤◌}
 use native.Mathlib.Omega.{arith}
 use mathlib.Core.Path.{◌≡◌, refl, sym, ap, ◌∙◌}
 use mathlib.Core.Bool.{Bool, true, false, ◌&&◌}
-use mathlib.Core.Option.{Option}
+use Rattle.std.specs.Prelude.{Option}
 use mathlib.Core.List.{List, [], ◌∷◌, map, map-append}
 use lib.Dec.{leb}
 use borrow.Author.Tests.{leb-true, leb-false, le-leb, lt-leb}
-use Rattle.model.specs.rules.Types.{Dialect, Target, Outside, Passed, OfCell, Between, Tail, Ends, Step, To, Reject, FileTooLong, RecordTooLong}
+use Rattle.model.specs.rules.Types.{Dialect, Target, Outside, Passed, OfCell, Between, Tail, Ends, Step, Ok, Err, FileTooLong, RecordTooLong}
 use Rattle.model.specs.rules.Base.{choose◌then◌else◌, Bytes}
 use Rattle.model.specs.rules.File.{file_step, counts}
 use Rattle.model.specs.rules.Report.{MAXFILE, MAXRECORD}
@@ -31,13 +31,13 @@ module _ (d : Dialect) (target : Option Target) (done : List Rec) where
       (s : Scan) (b : ℕ) (bs : Bytes) → Comes bs → (x : Step) →
       read_from d target (move d target (read_of d done s) b x) bs ≡ resume d target done (scan_step s b bs (λ s'. scan d MAXFILE s' bs) x)
   unfolding move scan_step
-  step_reads s b bs ih (Reject e) = read_stopped d target _ _ bs
-  step_reads s b bs ih (To f Outside) = ih _
-  step_reads s b bs ih (To f Passed) = ih _
-  step_reads s b bs ih (To f OfCell) = ih _
-  step_reads s b bs ih (To f (Between k)) = rw (values_closing k s) (ih _)
-  step_reads s b bs ih (To f (Tail k)) = rw (values_closing k s) (ih _)
-  step_reads s b bs ih (To f (Ends k)) = rw (values_closing k s)
+  step_reads s b bs ih (Err e) = read_stopped d target _ _ bs
+  step_reads s b bs ih (Ok (f, Outside)) = ih _
+  step_reads s b bs ih (Ok (f, Passed)) = ih _
+  step_reads s b bs ih (Ok (f, OfCell)) = ih _
+  step_reads s b bs ih (Ok (f, Between k)) = rw (values_closing k s) (ih _)
+  step_reads s b bs ih (Ok (f, Tail k)) = rw (values_closing k s) (ih _)
+  step_reads s b bs ih (Ok (f, Ends k)) = rw (values_closing k s)
 
   choose_reads :
       (s : Scan) (b : ℕ) (bs : Bytes) → Comes bs → (u v : Bool) (x : Step) →
@@ -81,13 +81,13 @@ module _ (d : Dialect) (n limit : ℕ) where
       (s : Scan) (b : ℕ) (bs : Bytes) → Shifts bs → (x : Step) →
       scan_step (moved n s) b bs (λ s'. scan d (n + limit) s' bs) x ≡ moved_to n (scan_step s b bs (λ s'. scan d limit s' bs) x)
   unfolding scan_step
-  step_moved s b bs ih (Reject e) = refl
-  step_moved s b bs ih (To f Outside) = rw (next_moved n s.offset) (ih _)
-  step_moved s b bs ih (To f Passed) = rw (next_moved n s.offset) (ih _)
-  step_moved s b bs ih (To f OfCell) = rw (next_moved n s.offset) (ih _)
-  step_moved s b bs ih (To f (Between k)) = rw (next_moved n s.offset, closing_moved k s) (ih _)
-  step_moved s b bs ih (To f (Tail k)) = rw (next_moved n s.offset, closing_moved k s) (ih _)
-  step_moved s b bs ih (To f (Ends k)) = rw (next_moved n s.offset, closing_moved k s)
+  step_moved s b bs ih (Err e) = refl
+  step_moved s b bs ih (Ok (f, Outside)) = rw (next_moved n s.offset) (ih _)
+  step_moved s b bs ih (Ok (f, Passed)) = rw (next_moved n s.offset) (ih _)
+  step_moved s b bs ih (Ok (f, OfCell)) = rw (next_moved n s.offset) (ih _)
+  step_moved s b bs ih (Ok (f, Between k)) = rw (next_moved n s.offset, closing_moved k s) (ih _)
+  step_moved s b bs ih (Ok (f, Tail k)) = rw (next_moved n s.offset, closing_moved k s) (ih _)
+  step_moved s b bs ih (Ok (f, Ends k)) = rw (next_moved n s.offset, closing_moved k s)
 
   choose_moved :
       (s : Scan) (b : ℕ) (bs : Bytes) → Shifts bs → (u v : Bool) (x : Step) →

@@ -8,7 +8,7 @@ use mathlib.Core.List.{List, [], ◌∷◌, ◌++◌}
 use lib.ListN.{length, length-append}
 use lib.Dec.{leb}
 use borrow.Author.Tests.{leb-false}
-use Rattle.model.specs.rules.Types.{Dialect, Outside, Passed, OfCell, Between, Tail, Ends, Step, To, Reject}
+use Rattle.model.specs.rules.Types.{Dialect, Outside, Passed, OfCell, Between, Tail, Ends, Step, Ok, Err}
 use Rattle.model.specs.rules.Base.{Bytes}
 use Rattle.model.specs.rules.File.{file_step, counts}
 use Rattle.model.specs.rules.Report.{MAXRECORD}
@@ -48,25 +48,25 @@ module _ (d : Dialect) (limit : ℕ) where
       (s : Scan) (b : ℕ) (bs : Bytes) → Fits bs → Sized s → (leb MAXRECORD s.size && counts s.state b) ≡ false → (x : Step) →
       Transition d s.state b x → SizedTo (scan_step s b bs (λ s'. scan d limit s' bs) x)
   unfolding scan_step bytes_in
-  step_sized s b bs ih z h (Reject e) y = sized_fails z
-  step_sized s b bs ih z h (To f Outside) y = ih _ (record { held = omega arith; limit = omega arith })
-  step_sized s b bs ih z h (To f Passed) y = ih _ (record { held = omega arith; limit = omega arith })
-  step_sized s b bs ih z h (To f OfCell) y =
+  step_sized s b bs ih z h (Err e) y = sized_fails z
+  step_sized s b bs ih z h (Ok (f, Outside)) y = ih _ (record { held = omega arith; limit = omega arith })
+  step_sized s b bs ih z h (Ok (f, Passed)) y = ih _ (record { held = omega arith; limit = omega arith })
+  step_sized s b bs ih z h (Ok (f, OfCell)) y =
       let m : suc s.size ≤ MAXRECORD = not_full s.size (counts s.state b) h (cell_counts y) in
       let l : bytes_in s.cells + length s.raw ≤ s.size = z.held in
       let e : length (s.raw ++ (b ∷ [])) ≡ length s.raw + 1 = length-append s.raw (b ∷ []) in
       let g : bytes_in s.cells + length (s.raw ++ (b ∷ [])) ≤ suc s.size = omega arith in
       ih _ (record { held = g; limit = m })
-  step_sized s b bs ih z h (To f (Between k)) y =
+  step_sized s b bs ih z h (Ok (f, Between k)) y =
       let m : suc s.size ≤ MAXRECORD = not_full s.size (counts s.state b) h (between_counts y) in
       let l : bytes_in (closing_raw k s) ≤ s.size = closing_size k s z in
       let g : bytes_in (closing_raw k s) + 0 ≤ suc s.size = omega arith in
       ih _ (record { held = g; limit = m })
-  step_sized s b bs ih z h (To f (Tail k)) y =
+  step_sized s b bs ih z h (Ok (f, Tail k)) y =
       let l : bytes_in (closing_raw k s) ≤ s.size = closing_size k s z in
       let g : bytes_in (closing_raw k s) + 0 ≤ s.size = omega arith in
       ih _ (record { held = g; limit = z.limit })
-  step_sized s b bs ih z h (To f (Ends k)) y = sized_completes z (closing_size k s z)
+  step_sized s b bs ih z h (Ok (f, Ends k)) y = sized_completes z (closing_size k s z)
 
   sizes : (bs : Bytes) → Fits bs
   unfolding scan

@@ -11,7 +11,7 @@ use borrow.Author.Tests.{ne_eqb}
 use Rattle.model.specs.rules.Types.{Dialect, Csvj, Tdif, CsvPlus, EeToEf, Second, Last, Within, ByteFault, Cell, Fresh, Plain, CellStep, More}
 use Rattle.model.specs.rules.Types.{Stop, Refuse}
 use Rattle.model.specs.rules.Types.{FileState, Top, Begin, Ended, Bom1, Bom2, PlainBom1, PlainBom2, Comment, Blanks, ExpectCell, Inside, After}
-use Rattle.model.specs.rules.Types.{Cr, Outside, Passed, OfCell, Between, Tail, Ends, Step, To, Reject, FileTooLong, RecordTooLong}
+use Rattle.model.specs.rules.Types.{Cr, Outside, Passed, OfCell, Between, Tail, Ends, Step, Ok, Err, FileTooLong, RecordTooLong}
 use Rattle.model.specs.rules.Base.{choose◌then◌else◌, ◌is◌, Bytes}
 use Rattle.model.specs.rules.Cell.{cell_step}
 use Rattle.model.specs.rules.File.{after_cell, grow, in_cell, file_step, counts}
@@ -26,11 +26,11 @@ use Rattle.model.proofs.piece_laws.ScanLaws.{scan_reads, shift}
 
 -- a byte of a record continues it, or ends it
 data Stays : Step → Type 0 where
-  y_fault : {e : ByteFault} → Stays (Reject e)
-  y_cell : {g : FileState} → in_record g ≡ true → Stays (To g OfCell)
-  y_between : {g : FileState} {k : Bool} → in_record g ≡ true → Stays (To g (Between k))
-  y_tail : {g : FileState} {k : Bool} → in_record g ≡ true → Stays (To g (Tail k))
-  y_ends : {g : FileState} {k : Bool} → Stays (To g (Ends k))
+  y_fault : {e : ByteFault} → Stays (Err e)
+  y_cell : {g : FileState} → in_record g ≡ true → Stays (Ok (g, OfCell))
+  y_between : {g : FileState} {k : Bool} → in_record g ≡ true → Stays (Ok (g, Between k))
+  y_tail : {g : FileState} {k : Bool} → in_record g ≡ true → Stays (Ok (g, Tail k))
+  y_ends : {g : FileState} {k : Bool} → Stays (Ok (g, Ends k))
 
 after_stays : (d : Dialect) (k : Bool) (b : ℕ) → Stays (after_cell d k b)
 unfolding after_cell
@@ -110,7 +110,7 @@ module _ (d : Dialect) (limit : ℕ) (k : Buffered) (began : ℕ) where
     abbrev Seen : Step → Type 0
     Seen x = scan_step (joined k began s) b bs (λ s'. scan d limit s' bs) x ≡ joined_to k began (scan_step s b bs (λ s'. scan d limit s' bs) x)
 
-    cell_seen : (f : FileState) → Holds f k → Seen (To f OfCell)
+    cell_seen : (f : FileState) → Holds f k → Seen (Ok (f, OfCell))
     unfolding scan_step
     cell_seen f h =
         rw (raw_more s.opened b s.raw) (ih (record {
@@ -123,7 +123,7 @@ module _ (d : Dialect) (limit : ℕ) (k : Buffered) (began : ℕ) where
           cells = s.cells;
         }) h (omega arith))
 
-    between_seen : (f : FileState) (c : Bool) → Holds f k → Seen (To f (Between c))
+    between_seen : (f : FileState) (c : Bool) → Holds f k → Seen (Ok (f, Between c))
     unfolding scan_step
     between_seen f c h =
         let next : Scan
@@ -138,7 +138,7 @@ module _ (d : Dialect) (limit : ℕ) (k : Buffered) (began : ℕ) where
         } in
         rw (closing_joined c s) (rw (place_behind k.opened s.offset l, raw_behind s.offset l) at (ih next h (omega arith)))
 
-    tail_seen : (f : FileState) (c : Bool) → Holds f k → Seen (To f (Tail c))
+    tail_seen : (f : FileState) (c : Bool) → Holds f k → Seen (Ok (f, Tail c))
     unfolding scan_step
     tail_seen f c h =
         let next : Scan
@@ -153,19 +153,19 @@ module _ (d : Dialect) (limit : ℕ) (k : Buffered) (began : ℕ) where
         } in
         rw (closing_joined c s) (rw (place_behind k.opened s.offset l, raw_behind s.offset l) at (ih next h (omega arith)))
 
-    ends_seen : (f : FileState) (c : Bool) → Seen (To f (Ends c))
+    ends_seen : (f : FileState) (c : Bool) → Seen (Ok (f, Ends c))
     unfolding scan_step
     ends_seen f c = rw (closing_joined c s)
 
     stays_seen : (x : Step) → Stays x → Seen x
     unfolding scan_step
-    stays_seen (Reject e) y_fault = refl
-    stays_seen (To f OfCell) (y_cell h) = cell_seen f (current h)
-    stays_seen (To f (Between c)) (y_between h) = between_seen f c (current h)
-    stays_seen (To f (Tail c)) (y_tail h) = tail_seen f c (current h)
-    stays_seen (To f (Ends c)) y_ends = ends_seen f c
-    stays_seen (To f Outside) x4 = elim x4 [ ]
-    stays_seen (To f Passed) x5 = elim x5 [ ]
+    stays_seen (Err e) y_fault = refl
+    stays_seen (Ok (f, OfCell)) (y_cell h) = cell_seen f (current h)
+    stays_seen (Ok (f, Between c)) (y_between h) = between_seen f c (current h)
+    stays_seen (Ok (f, Tail c)) (y_tail h) = tail_seen f c (current h)
+    stays_seen (Ok (f, Ends c)) y_ends = ends_seen f c
+    stays_seen (Ok (f, Outside)) x4 = elim x4 [ ]
+    stays_seen (Ok (f, Passed)) x5 = elim x5 [ ]
 
     none_kept : k.cells ≡ [] → k.cells ++ [] ≡ []
     none_kept q = append-nil k.cells ∙ q
@@ -173,17 +173,17 @@ module _ (d : Dialect) (limit : ℕ) (k : Buffered) (began : ℕ) where
     -- nothing is pending
     none_seen : k.raw ≡ [] → k.cells ≡ [] → (x : Step) → Seen x
     unfolding scan_step
-    none_seen p q (Reject e) = refl
-    none_seen p q (To f Outside) =
+    none_seen p q (Err e) = refl
+    none_seen p q (Ok (f, Outside)) =
         let next : Scan = record { state = f; offset = suc s.offset; start = s.start; size = 0; opened = suc s.offset; raw = []; cells = [] } in
         rw (place_behind k.opened s.offset l, raw_behind s.offset l, none_kept q) at (ih next (nothing_current p q) (omega arith))
-    none_seen p q (To f Passed) =
+    none_seen p q (Ok (f, Passed)) =
         rw (place_behind k.start s.offset l, place_behind k.opened s.offset l, raw_behind s.offset l, none_kept q) at
         (ih (scan_between f (suc s.offset)) (nothing_current p q) (omega arith))
-    none_seen p q (To f OfCell) = cell_seen f (nothing_current p q)
-    none_seen p q (To f (Between c)) = between_seen f c (nothing_current p q)
-    none_seen p q (To f (Tail c)) = tail_seen f c (nothing_current p q)
-    none_seen p q (To f (Ends c)) = ends_seen f c
+    none_seen p q (Ok (f, OfCell)) = cell_seen f (nothing_current p q)
+    none_seen p q (Ok (f, Between c)) = between_seen f c (nothing_current p q)
+    none_seen p q (Ok (f, Tail c)) = tail_seen f c (nothing_current p q)
+    none_seen p q (Ok (f, Ends c)) = ends_seen f c
 
     step_seen : Holds s.state k → Seen (file_step d s.state b)
     step_seen (current h) = stays_seen (file_step d s.state b) (step_stays d s.state b h)

@@ -1,7 +1,7 @@
 -- The round trips, each from the file that proves it.
 use Prim.Native.Nat.{ℕ, ◌≤◌}
 use mathlib.Core.Path.{◌≡◌, sym, ap, subst, ◌∙◌}
-use mathlib.Core.Option.{none, some}
+use Rattle.std.specs.Prelude.{None, Some}
 use mathlib.Core.List.{List, [], ◌∷◌}
 use lib.ListN.{length}
 use Rattle.model.specs.rules.Types.{Dialect}
@@ -22,22 +22,22 @@ use Rattle.model.proofs.round_trip.ConvertBack.{same_text, converted_back, conve
 table_trip : TableTrip
 table_trip d rs w =
     let b = writer_back d rs w in
-    (read_as (table_read d none rs own_none b), read_as (table_read d (some (into d)) rs own_some b))
+    (read_as (table_read d None rs own_none b), read_as (table_read d (Some (into d)) rs own_some b))
 
-same_some : {x y : List (List Value)} → some x ≡ some y → x ≡ y
+same_some : {x y : List (List Value)} → Some x ≡ Some y → x ≡ y
 same_some e = cc
 
 first_row : {columns : ℕ} {h : List Value} {rs : List (List Value)} → All (λ (r : List Value). length r ≡ columns) (h ∷ rs) → length h ≡ columns
 first_row (all_cons l ls) = l
 
 rows_back :
-    (n : ℕ) (table : Table) (d : Dialect) (rs : List (List Value)) (places : ℕ) (text : Bytes) → dialect_of n ≡ some d → Writable d rs →
+    (n : ℕ) (table : Table) (d : Dialect) (rs : List (List Value)) (places : ℕ) (text : Bytes) → dialect_of n ≡ Some d → Writable d rs →
     Even table.columns table.records rs → table_text (into d) rs ≡ text → length (concat rs) ≤ places →
     ReadsBack n table rs text (reader n text places)
 rows_back n table d [] places text k w e s l = absurd (elim w [ ])
 rows_back n table d (h ∷ rs) places text k w e s l =
-    let r : Read-as d none text (h ∷ rs)
-    = subst (λ (x : Bytes). Read-as d none x (h ∷ rs)) s (table_read d none (h ∷ rs) own_none (writer_back d (h ∷ rs) w)) in
+    let r : Read-as d None text (h ∷ rs)
+    = subst (λ (x : Bytes). Read-as d None x (h ∷ rs)) s (table_read d None (h ∷ rs) own_none (writer_back d (h ∷ rs) w)) in
     let a : Answers (h ∷ rs) (length h) (reader n text places) = reader_answers n d h rs places text k r l in
     record {
       report = a.report;

@@ -5,7 +5,7 @@ use mathlib.Core.Path.{◌≡◌, refl, sym, ◌∙◌}
 use mathlib.Core.Bool.{Bool, true, false, ◌&&◌, ◌||◌}
 use mathlib.Core.List.{[], ◌∷◌}
 use Rattle.model.specs.rules.Types.{Kind, Text, Number, True, False, Null, Settings, Dialect, Csvj, Tdif, CsvPlus, Cell, Fresh, CellStep, More}
-use Rattle.model.specs.rules.Types.{CellCheck, WholeCell, Unsound}
+use Rattle.model.specs.rules.Types.{CellCheck, Ok, Err}
 use Rattle.model.specs.rules.Base.{Bytes, QUOTE, ◌is◌, holds, choose◌then◌else◌, is_empty}
 use Rattle.model.specs.rules.Dialect.{quote_of}
 use Rattle.model.specs.rules.Utf8.{holds_lone, is_content}
@@ -20,20 +20,21 @@ use Rattle.model.proofs.cell_laws.CellRuns.{Runs, there, sound_runs}
 use Rattle.model.proofs.cell_laws.CellContent.{Doubles, d_tdif, d_plus, no_more}
 use Rattle.model.proofs.round_trip.TextBack.{or_false, content_text, quoted_sound, quoted_content, quoted_kind, plain_sound, plain_content}
 use Rattle.model.proofs.round_trip.JsonRuns.{json_sound, json_content}
+use Rattle.model.specs.rules.Types.{cell_fault}
 
 -- ---- the cells that a table can hold
 
 pub data Valid : Kind → Bytes → Type 0 where
   v_text : {bs : Bytes} → is_content bs ≡ true → Valid Text bs
-  v_number : {bs : Bytes} → kind_of Csvj bs ≡ Number → validate_cell Csvj bs ≡ WholeCell → Valid Number bs
+  v_number : {bs : Bytes} → kind_of Csvj bs ≡ Number → validate_cell Csvj bs ≡ Ok tt → Valid Number bs
   v_true : Valid True []
   v_false : Valid False []
   v_null : Valid Null []
 
 number_case : (bs : Bytes) (k : Kind) (j : CellCheck) → kind_of Csvj bs ≡ k → validate_cell Csvj bs ≡ j → is_number k j ≡ true → Valid Number bs
 number_case bs Text j e f h = impossible h
-number_case bs Number WholeCell e f h = v_number e f
-number_case bs Number (Unsound x o) e f h = impossible h
+number_case bs Number (Ok _) e f h = v_number e f
+number_case bs Number (Err u) e f h = impossible h
 number_case bs True j e f h = impossible h
 number_case bs False j e f h = impossible h
 number_case bs Null j e f h = impossible h
@@ -57,10 +58,10 @@ valid_value v_null = refl
 
 -- ---- a number is its own text
 
-no_kind : {A : Type 0} (k : Kind) → is_number k WholeCell ≡ false → k ≡ Number → A
+no_kind : {A : Type 0} (k : Kind) → is_number k (Ok tt) ≡ false → k ≡ Number → A
 no_kind k f e = impossible (sym f ∙ number e)
   where
-    number : k ≡ Number → is_number k WholeCell ≡ true
+    number : k ≡ Number → is_number k (Ok tt) ≡ true
     number e = rw e
 
 or_right : (x y : Bool) → y ≡ true → (x || y) ≡ true
@@ -90,7 +91,7 @@ module _ (b : ℕ) (bs : Bytes) (c : Cell) (k : kind_of Csvj (b ∷ bs) ≡ Numb
       split Digit (b is 0x66) (λ f _. unfold choose◌then◌else◌ in no_kind False refl (rw (q, t, f) at k)) λ f.
       split Digit (b is 0x6E) (λ n _. unfold choose◌then◌else◌ in no_kind Null refl (rw (q, t, f, n) at k)) λ n y. no_more y
 
-pub number_content : (bs : Bytes) → kind_of Csvj bs ≡ Number → validate_cell Csvj bs ≡ WholeCell → content_of Csvj bs ≡ bs
+pub number_content : (bs : Bytes) → kind_of Csvj bs ≡ Number → validate_cell Csvj bs ≡ Ok tt → content_of Csvj bs ≡ bs
 unfolding content_of validate_cell choose◌then◌else◌
 number_content [] k j = refl
 number_content (b ∷ bs) k j = let w = sound_runs Csvj Fresh 0 (b ∷ bs) j in go w.runs

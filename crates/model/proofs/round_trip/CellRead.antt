@@ -5,14 +5,14 @@ use native.Mathlib.Omega.{arith}
 use native.Mathlib.Nat.{add-zero}
 use mathlib.Core.Path.{◌≡◌, refl, ap, ◌∙◌}
 use mathlib.Core.Bool.{Bool, true, false, ◌&&◌}
-use mathlib.Core.Option.{Option}
+use Rattle.std.specs.Prelude.{Option}
 use mathlib.Core.List.{List, [], ◌∷◌, ◌++◌, append_assoc, append-nil}
 use lib.ListN.{length}
 use borrow.Author.Tests.{lt-leb}
 use Rattle.model.specs.rules.Types.{Settings, Dialect, Csvj, Tdif, CsvPlus, Target, EeToEf, Second, Last, Within, Cell, Fresh, Plain, CellStep}
 use Rattle.model.specs.rules.Types.{More, Refuse, Syntax}
 use Rattle.model.specs.rules.Types.{FileState, Top, Begin, Ended, Bom1, Bom2, PlainBom1, PlainBom2, Comment, Blanks, ExpectCell, Inside, After}
-use Rattle.model.specs.rules.Types.{Cr, OfCell, To}
+use Rattle.model.specs.rules.Types.{Cr, OfCell, Ok}
 use Rattle.model.specs.rules.Base.{Bytes, LF, CR, ◌is◌, choose◌then◌else◌}
 use Rattle.model.specs.rules.Cell.{first_byte, cell_step}
 use Rattle.model.specs.rules.File.{in_cell, begin_record, begin_file, file_step}
@@ -59,7 +59,7 @@ NoBom Cr bs = Unit {0}
 
 record Next (d : Dialect) (f : FileState) (b : ℕ) (c : Cell) (bs : Bytes) : Type 0 where
   state : FileState
-  step : file_step d f b ≡ To state OfCell
+  step : file_step d f b ≡ Ok (state, OfCell)
   like : Like d state c
   clear : NoBom state bs
 
@@ -71,11 +71,11 @@ not_this d x b {c} n e = go (b is x) refl
     go false h = refl
     go true h = let q : b ≡ x = is→eq b x h in let e' : cell_step d Fresh x ≡ More c = rw q at e in let z : ◌≡◌ {A = ℕ} 0 1 = cc in absurd (omega arith)
 
-grows : (d : Dialect) (c : Cell) (b : ℕ) (c' : Cell) → cell_step d c b ≡ More c' → in_cell d c b ≡ To (Inside c') OfCell
+grows : (d : Dialect) (c : Cell) (b : ℕ) (c' : Cell) → cell_step d c b ≡ More c' → in_cell d c b ≡ Ok (Inside c', OfCell)
 unfolding in_cell
 grows d c b c' e = rw e
 
-begins : (d : Dialect) (b : ℕ) (c : Cell) → cell_step d Fresh b ≡ More c → begin_record d b ≡ To (Inside c) OfCell
+begins : (d : Dialect) (b : ℕ) (c : Cell) → cell_step d Fresh b ≡ More c → begin_record d b ≡ Ok (Inside c, OfCell)
 unfolding begin_record choose◌then◌else◌
 begins Csvj b c e =
     unfold cell_step first_byte in rw (not_this Csvj 0x20 b refl e, not_this Csvj 0x09 b refl e, not_this Csvj LF b refl e, not_this Csvj CR b refl e)
@@ -164,7 +164,7 @@ record_free r b k = rw (lt-leb MAXRECORD r.size k)
 
 module _ (d : Dialect) (T : Option Target) (ds : List Rec) (s p : ℕ) (vs : List Value) where
   byte_read :
-      (f f' : FileState) (b o z : ℕ) (raw : Bytes) → file_step d f b ≡ To f' OfCell → o < MAXFILE → z < MAXRECORD →
+      (f f' : FileState) (b o z : ℕ) (raw : Bytes) → file_step d f b ≡ Ok (f', OfCell) → o < MAXFILE → z < MAXRECORD →
       read_byte d T (reading ds f o s z p raw vs) b ≡ going (reading ds f' (suc o) s (suc z) p (raw ++ (b ∷ [])) vs)
   unfolding read_byte move choose◌then◌else◌
   byte_read f f' b o z raw e h k = rw (file_free (reading ds f o s z p raw vs) h, record_free (reading ds f o s z p raw vs) b k, e)

@@ -4,12 +4,12 @@ use Prim.Native.Nat.{ℕ, suc, ◌+◌}
 use native.Mathlib.Omega.{arith}
 use mathlib.Core.Path.{◌≡◌, refl, sym, ap, ◌∙◌}
 use mathlib.Core.Bool.{Bool, true, false, not}
-use mathlib.Core.Option.{Option, none, some}
+use Rattle.std.specs.Prelude.{Option, None, Some}
 use mathlib.Core.List.{List, [], ◌∷◌, ◌++◌}
 use lib.Dec.{ltb, eqb}
 use lib.ListN.{length, length-append}
 use borrow.Author.Tests.{eqb-true}
-use Rattle.model.specs.rules.Types.{Dialect, Fault, TooManyColumns, CellCount, RepeatedName, Clash, Top, Sound, Faulty}
+use Rattle.model.specs.rules.Types.{Dialect, Fault, TooManyColumns, CellCount, RepeatedName, Clash, Top, Ok, Err}
 use Rattle.model.specs.rules.Base.{Bytes, concat, choose◌then◌else◌}
 use Rattle.model.specs.rules.Dialect.{dialect_of, into}
 use Rattle.model.specs.rules.Text.{Value, record_text, data_text, table_text, ending}
@@ -37,27 +37,27 @@ use Rattle.model.proofs.round_trip.RoundTrip.{accepts, no_refusal, fault_number,
 
 -- the same names repeat, whatever the fault is called
 repeat_alike :
-    (t : Dialect) (f g : ℕ → Fault) (seen : List Bytes) (n : ℕ) (vs : List Value) → repeat_from t f seen n vs ≡ Sound →
-    repeat_from t g seen n vs ≡ Sound
+    (t : Dialect) (f g : ℕ → Fault) (seen : List Bytes) (n : ℕ) (vs : List Value) → repeat_from t f seen n vs ≡ Ok tt →
+    repeat_from t g seen n vs ≡ Ok tt
 unfolding repeat_from choose◌then◌else◌
 repeat_alike t f g seen n [] e = refl
 repeat_alike t f g seen n (v ∷ vs) e = go (among (name_key t v.content) seen) refl (repeat_alike t f g (name_key t v.content ∷ seen) (suc n) vs)
   where
     go :
         (b : Bool) → among (name_key t v.content) seen ≡ b →
-        (repeat_from t f (name_key t v.content ∷ seen) (suc n) vs ≡ Sound →
-        repeat_from t g (name_key t v.content ∷ seen) (suc n) vs ≡ Sound) → repeat_from t g seen n (v ∷ vs) ≡ Sound
-    go true p ih = let z : Faulty (f n) ≡ Sound = rw p at e in (let y : ◌≡◌ {A = ℕ} 0 1 = cc in absurd (omega arith))
+        (repeat_from t f (name_key t v.content ∷ seen) (suc n) vs ≡ Ok tt →
+        repeat_from t g (name_key t v.content ∷ seen) (suc n) vs ≡ Ok tt) → repeat_from t g seen n (v ∷ vs) ≡ Ok tt
+    go true p ih = let z : Err (f n) ≡ Ok tt = rw p at e in (let y : ◌≡◌ {A = ℕ} 0 1 = cc in absurd (omega arith))
     go false p ih = rw p (ih (rw p at e))
 
-header_target : (d t : Dialect) (vs : List Value) → header_fault d vs ≡ Sound → repeat_fault t Clash vs ≡ Sound → header_fault t vs ≡ Sound
+header_target : (d t : Dialect) (vs : List Value) → header_fault d vs ≡ Ok tt → repeat_fault t Clash vs ≡ Ok tt → header_fault t vs ≡ Ok tt
 unfolding header_fault repeat_fault
 header_target d t vs e k =
     let a = else_sound (when (ltb MAXCOLUMNS (length vs)) TooManyColumns) _ e in
     let b = else_sound (header_kind_from 1 vs) _ a.1 in
     both_sound a.0 (both_sound b.0 (repeat_alike t Clash RepeatedName [] 1 vs k))
 
-header_backed : (d t : Dialect) (vs : List Value) → All ValueCell vs → (header_fault d vs or_else target_fault (into t) true 0 vs) ≡ Sound → TableBack t (vs ∷ [])
+header_backed : (d t : Dialect) (vs : List Value) → All ValueCell vs → (header_fault d vs or_else target_fault (into t) true 0 vs) ≡ Ok tt → TableBack t (vs ∷ [])
 unfolding table_text data_text
 header_backed d t vs v e =
     let x = else_sound (header_fault d vs) (target_fault (into t) true 0 vs) e in
@@ -72,7 +72,7 @@ header_cells : {t : Dialect} {h : List Value} → RowBack t Top true h → has_c
 header_cells (row_empty e k) = refl
 header_cells (row_cells l n b bs) = refl
 
-even_length : (n : ℕ) (vs : List Value) → data_fault n vs ≡ Sound → length vs ≡ n
+even_length : (n : ℕ) (vs : List Value) → data_fault n vs ≡ Ok tt → length vs ≡ n
 unfolding data_fault
 even_length n vs e =
     let a = else_sound (when (ltb MAXCOLUMNS (length vs)) TooManyColumns) _ e in
@@ -80,7 +80,7 @@ even_length n vs e =
 
 data_backed :
     (t : Dialect) (h : List Value) (rs : List (List Value)) (vs : List Value) → TableBack t (h ∷ rs) → All ValueCell vs →
-    (data_fault (length h) vs or_else target_fault (into t) false (length (table_text (into t) (h ∷ rs))) vs) ≡ Sound →
+    (data_fault (length h) vs or_else target_fault (into t) false (length (table_text (into t) (h ∷ rs))) vs) ≡ Ok tt →
     TableBack t (h ∷ (rs ++ (vs ∷ [])))
 data_backed t h rs vs (table_back b f g k bs m) v e =
     let x = else_sound (data_fault (length h) vs) (target_fault (into t) false (length (table_text (into t) (h ∷ rs))) vs) e in
@@ -111,7 +111,7 @@ all_split (y ∷ ds) x (all_cons p ps) = let i = all_split ds x ps in (all_cons 
 
 module _ (d t : Dialect) where
   one_more_lem :
-      (ds : List Rec) (x : Rec) → All ValueCell x.cells → record_fault d (some (into t)) ds x.cells ≡ Sound → Backed t ds →
+      (ds : List Rec) (x : Rec) → All ValueCell x.cells → record_fault d (Some (into t)) ds x.cells ≡ Ok tt → Backed t ds →
       Backed t (ds ++ (x ∷ []))
   unfolding record_fault rows table_text
   one_more_lem [] x v e b = backed (header_backed d t x.cells v e)
@@ -123,20 +123,20 @@ module _ (d t : Dialect) where
   abbrev Backs : List Rec → Type 0
   Backs ds = All (SoundRecord d) ds → Backed t ds
 
-  keep : (ds : List Rec) (x : Rec) → Backs ds → record_fault d (some (into t)) ds x.cells ≡ Sound → Backs (ds ++ (x ∷ []))
+  keep : (ds : List Rec) (x : Rec) → Backs ds → record_fault d (Some (into t)) ds x.cells ≡ Ok tt → Backs (ds ++ (x ∷ []))
   keep ds x b e s = let y = all_split ds x s in one_more_lem ds x (values_valid y.1) e (b y.0)
 
-  file_backed : (xs : Bytes) → Backed t (records_of (read_file d (some (into t)) xs))
-  file_backed xs = file_keeps d (some (into t)) Backs keep (λ s. not_yet) xs (cells_sound_file d (some (into t)) xs)
+  file_backed : (xs : Bytes) → Backed t (records_of (read_file d (Some (into t)) xs))
+  file_backed xs = file_keeps d (Some (into t)) Backs keep (λ s. not_yet) xs (cells_sound_file d (Some (into t)) xs)
 
   open_backed : (ds : List Rec) (h : Rec) (rs : List Rec) → Backed t ds → ds ≡ h ∷ rs → TableBack t (rows ds)
   open_backed ds h rs not_yet e = let z : ◌≡◌ {A = ℕ} 0 1 = cc in absurd (omega arith)
   open_backed ds h rs (backed b) e = b
 
   -- the records of an accepted file make a table that the target reads back
-  pub file_back : (xs : Bytes) (r : Read) → read_file d (some (into t)) xs ≡ going r → TableBack t (rows r.done)
+  pub file_back : (xs : Bytes) (r : Read) → read_file d (Some (into t)) xs ≡ going r → TableBack t (rows r.done)
   file_back xs r e =
-      let h = file_header d (some (into t)) xs r e in
+      let h = file_header d (Some (into t)) xs r e in
       let b : Backed t r.done = rw e at (file_backed xs) in
       open_backed r.done h.header h.rest b h.done
 
@@ -145,10 +145,10 @@ module _ (d t : Dialect) where
 pub record Converts (m n : ℕ) (file : Bytes) (room : ℕ) (text : Bytes) : Type 0 where
   pub source : Dialect
   pub target : Dialect
-  pub known : dialect_of m ≡ some source
-  pub known_target : dialect_of n ≡ some target
+  pub known : dialect_of m ≡ Some source
+  pub known_target : dialect_of n ≡ Some target
   pub end : Read
-  pub run : read_file source (some (into target)) file ≡ going end
+  pub run : read_file source (Some (into target)) file ≡ going end
   pub spelt : Fitted room (table_text (into target) (rows end.done)) text
 
 pub converter_converts : (m n : ℕ) (file : Bytes) (room : ℕ) (text : Bytes) → converter m n file room ≡ accepts text → Converts m n file room text
@@ -156,7 +156,7 @@ unfolding converter
 converter_converts m n file room text e = by_source (dialect_of m) refl e
   where
     by_end :
-        (d t : Dialect) → dialect_of m ≡ some d → dialect_of n ≡ some t → (p : Progress) → read_file d (some (into t)) file ≡ p →
+        (d t : Dialect) → dialect_of m ≡ Some d → dialect_of n ≡ Some t → (p : Progress) → read_file d (Some (into t)) file ≡ p →
         converted_as (into t) room p ≡ accepts text → Converts m n file room text
     by_end d t p q (stopped w r) k h = no_refusal h (λ z. fault_number w z)
     by_end d t p q (going r) k h =
@@ -171,36 +171,36 @@ converter_converts m n file room text e = by_source (dialect_of m) refl e
         }
 
     by_target :
-        (d : Dialect) → dialect_of m ≡ some d → (o : Option Dialect) → dialect_of n ≡ o →
+        (d : Dialect) → dialect_of m ≡ Some d → (o : Option Dialect) → dialect_of n ≡ o →
         (elim o as (λ _. Written)
-        [ none ↦ unwritten (refusal 11) | some t ↦ converted_as (into t) room (read_file d (some (into t)) file) ]) ≡ accepts text →
+        [ None ↦ unwritten (refusal 11) | Some t ↦ converted_as (into t) room (read_file d (Some (into t)) file) ]) ≡ accepts text →
         Converts m n file room text
-    by_target d p none q k = no_refusal k (λ h. absurd (omega arith))
-    by_target d p (some t) q k = by_end d t p q (read_file d (some (into t)) file) refl k
+    by_target d p None q k = no_refusal k (λ h. absurd (omega arith))
+    by_target d p (Some t) q k = by_end d t p q (read_file d (Some (into t)) file) refl k
 
     by_source :
         (o : Option Dialect) → dialect_of m ≡ o → (elim o as (λ _. Written) [
-          | none ↦ unwritten (refusal 11)
-          | some d ↦
+          | None ↦ unwritten (refusal 11)
+          | Some d ↦
               elim (dialect_of n) as (λ _. Written)
-              [ none ↦ unwritten (refusal 11) | some t ↦ converted_as (into t) room (read_file d (some (into t)) file) ]
+              [ None ↦ unwritten (refusal 11) | Some t ↦ converted_as (into t) room (read_file d (Some (into t)) file) ]
         ]) ≡ accepts text → Converts m n file room text
-    by_source none p k = no_refusal k (λ h. absurd (omega arith))
-    by_source (some d) p k = by_target d p (dialect_of n) refl k
+    by_source None p k = no_refusal k (λ h. absurd (omega arith))
+    by_source (Some d) p k = by_target d p (dialect_of n) refl k
 
 pub converter_known :
-    (m n : ℕ) (d t : Dialect) (file : Bytes) (room : ℕ) → dialect_of m ≡ some d → dialect_of n ≡ some t →
-    converter m n file room ≡ converted_as (into t) room (read_file d (some (into t)) file)
+    (m n : ℕ) (d t : Dialect) (file : Bytes) (room : ℕ) → dialect_of m ≡ Some d → dialect_of n ≡ Some t →
+    converter m n file room ≡ converted_as (into t) room (read_file d (Some (into t)) file)
 unfolding converter
 converter_known m n d t file room e k = rw (e, converter) (rw k)
 
 -- canonical text, converted to its own dialect
 own_text :
-    (n : ℕ) (d : Dialect) (rs : List (List Value)) (room : ℕ) (text : Bytes) → dialect_of n ≡ some d → TableBack d rs →
+    (n : ℕ) (d : Dialect) (rs : List (List Value)) (room : ℕ) (text : Bytes) → dialect_of n ≡ Some d → TableBack d rs →
     Fitted room (table_text (into d) rs) text → converter n n text room ≡ accepts text
 own_text n d rs room text e b f =
-    let r : Read-as d (some (into d)) (table_text (into d) rs) rs = table_read d (some (into d)) rs own_some b in
-    let run : read_file d (some (into d)) text ≡ going r.end = ap (read_file d (some (into d))) (sym f.same) ∙ r.run in
+    let r : Read-as d (Some (into d)) (table_text (into d) rs) rs = table_read d (Some (into d)) rs own_some b in
+    let run : read_file d (Some (into d)) text ≡ going r.end = ap (read_file d (Some (into d))) (sym f.same) ∙ r.run in
     let same : table_text (into d) (rows r.end.done) ≡ table_text (into d) rs = table_same (into d) r.same in
     converter_known n n d d text room e e ∙ ap (converted_as (into d) room) run ∙ ap (fitted room) same ∙ fitted_fits room (table_text (into d) rs) text f
 
@@ -238,13 +238,13 @@ answered_alike [] (y ∷ es) room s = elim s [ ]
 answered_alike (x ∷ ds) [] room s = elim s [ ]
 
 reads_alike :
-    (m n : ℕ) (d t : Dialect) (file text : Bytes) (end : Read) (places : ℕ) → dialect_of m ≡ some d → dialect_of n ≡ some t →
-    read_file d (some (into t)) file ≡ going end → table_text (into t) (rows end.done) ≡ text →
+    (m n : ℕ) (d t : Dialect) (file text : Bytes) (end : Read) (places : ℕ) → dialect_of m ≡ Some d → dialect_of n ≡ Some t →
+    read_file d (Some (into t)) file ≡ going end → table_text (into t) (rows end.done) ≡ text →
     SameAnswer (reader n text places) (reader m file places)
 reads_alike m n d t file text end places k l e f =
-    let r : Read-as t none (table_text (into t) (rows end.done)) (rows end.done)
-    = table_read t none (rows end.done) own_none (file_back d t file end e) in
-    let run : read_file t none text ≡ going r.end = ap (read_file t none) (sym f) ∙ r.run in
+    let r : Read-as t None (table_text (into t) (rows end.done)) (rows end.done)
+    = table_read t None (rows end.done) own_none (file_back d t file end e) in
+    let run : read_file t None text ≡ going r.end = ap (read_file t None) (sym f) ∙ r.run in
     let here : reader n text places ≡ read_answer (going r.end) places = reader_known n t text places l ∙ ap (λ (p : Progress). read_answer p places) run in
     let there : reader m file places ≡ read_answer (going end) places
     = reader_known m d file places k ∙ ap (λ (p : Progress). read_answer p places) (file_alone d (into t) file end e) in

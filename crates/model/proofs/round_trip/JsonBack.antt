@@ -4,11 +4,11 @@ use Prim.Native.Nat.{ℕ, ◌+◌, ◌-◌, ◌*◌, ◌/◌, ◌%◌, ◌≤◌
 use native.Mathlib.Omega.{arith}
 use mathlib.Core.Path.{◌≡◌, refl, sym, ap, ◌∙◌}
 use mathlib.Core.Bool.{Bool, true, false}
-use mathlib.Core.Option.{Option, none, some}
+use Rattle.std.specs.Prelude.{Option, None, Some}
 use mathlib.Core.List.{List, [], ◌∷◌, ◌++◌, append-nil, append_assoc}
 use lib.Dec.{leb}
 use borrow.Author.Tests.{leb-true, leb-false, le-leb, lt-leb}
-use Rattle.model.specs.rules.Types.{Second, LastTwo, Last, Within, Inner, C2ToDf, E0, E1ToEc, Ed, EeToEf, F0, F1ToF3, F4, Broken}
+use Rattle.model.specs.rules.Types.{Second, LastTwo, Last, Within, Inner, C2ToDf, E0, E1ToEc, Ed, EeToEf, F0, F1ToF3, F4}
 use Rattle.model.specs.rules.Base.{Bytes, choose◌then◌else◌, ◌is◌, QUOTE, within}
 use Rattle.model.specs.rules.Utf8.{pack, is_high, is_low, is_surrogate, char_step, inner_step, row_of, Wide, gap, ed, lone, inner, wide_step, wide_from}
 use Rattle.model.specs.rules.Decode.{Unit16, byte, unit, units, between, text_of, hex_of}
@@ -94,21 +94,21 @@ module _ (b c : ℕ) (hb : 0xA0 ≤ b) (hb' : b ≤ 0xBF) (hc : 0x80 ≤ c) (hc'
 
 -- a content continues after its first byte
 pub data Onward (bs : Bytes) : Option Wide → Type 0 where
-  onward : {w : Wide} → wide_from w bs ≡ true → Onward bs (some w)
+  onward : {w : Wide} → wide_from w bs ≡ true → Onward bs (Some w)
 
 step_on : (w : Wide) (b : ℕ) (bs : Bytes) → wide_from w (b ∷ bs) ≡ true → Onward bs (wide_step w b)
 unfolding wide_from
 step_on w b bs h = go (wide_step w b) h
   where
-    go : (o : Option Wide) → (elim o as (λ _. Bool) [ none ↦ false | some w' ↦ wide_from w' bs ]) ≡ true → Onward bs o
-    go none e = impossible e
-    go (some w') e = onward e
+    go : (o : Option Wide) → (elim o as (λ _. Bool) [ None ↦ false | Some w' ↦ wide_from w' bs ]) ≡ true → Onward bs o
+    go None e = impossible e
+    go (Some w') e = onward e
 
 -- no content has none ahead
-nothing_ahead : {A : Type 0} {bs : Bytes} → Onward bs none → A
+nothing_ahead : {A : Type 0} {bs : Bytes} → Onward bs None → A
 nothing_ahead o = absurd (elim o [ ])
 
-ahead : {w : Wide} {bs : Bytes} → Onward bs (some w) → wide_from w bs ≡ true
+ahead : {w : Wide} {bs : Bytes} → Onward bs (Some w) → wide_from w bs ≡ true
 ahead (onward e) = e
 
 lone_end : (h : Bool) (c : ℕ) (bs : Bytes) → wide_from (lone h) (c ∷ bs) ≡ true → (0x80 ≤ c) × (c ≤ 0xBF) × (wide_from (gap h) bs ≡ true)
@@ -129,7 +129,7 @@ lone_after : (h : Bool) (b c : ℕ) (bs : Bytes) → 0xA0 ≤ b → wide_from (e
 unfolding wide_step choose◌then◌else◌
 lone_after h b c bs k e =
     let o : Onward (c ∷ bs) (wide_step (ed h) b) = step_on (ed h) b (c ∷ bs) e in
-    let o₁ : Onward (c ∷ bs) (choose within 0xA0 0xAF b then some (lone true) else choose within 0xB0 0xBF b then (choose h then none else some (lone false)) else none)
+    let o₁ : Onward (c ∷ bs) (choose within 0xA0 0xAF b then Some (lone true) else choose within 0xB0 0xBF b then (choose h then None else Some (lone false)) else None)
     = rw (le-leb 0x80 b (omega arith), lt-leb b 0x9F (omega arith)) at o in
     split_on (leb b 0xAF)
     (λ p. let r = lone_end true c bs (ahead (rw (le-leb 0xA0 b k, p) at o₁)) in high k (leb-true b 0xAF p) r.0 r.1 r.2)
@@ -139,12 +139,12 @@ lone_after h b c bs k e =
     (λ q. last h m (leb-true b 0xBF q) (rw (le-leb 0xA0 b k, p, le-leb 0xB0 b (omega arith), q) at o₁))
     (λ q. nothing_ahead (rw (le-leb 0xA0 b k, p, le-leb 0xB0 b (omega arith), q) at o₁)))
   where
-    last : (h : Bool) → 0xAF < b → b ≤ 0xBF → Onward (c ∷ bs) (choose h then none else some (lone false)) → Lone h b c bs
+    last : (h : Bool) → 0xAF < b → b ≤ 0xBF → Onward (c ∷ bs) (choose h then None else Some (lone false)) → Lone h b c bs
     last true m n o = nothing_ahead o
     last false m n o = let r = lone_end false c bs (ahead o) in low refl (omega arith) n r.0 r.1 r.2
 
 -- ED is in no character but as its first byte
-pub inner_ed : (i : Inner) → char_step (Within i) 0xED ≡ Broken
+pub inner_ed : (i : Inner) → char_step (Within i) 0xED ≡ None
 unfolding char_step inner_step row_of choose◌then◌else◌
 inner_ed (Second C2ToDf) = refl
 inner_ed (Second E0) = refl
@@ -157,7 +157,7 @@ inner_ed (Second F4) = refl
 inner_ed LastTwo = refl
 inner_ed Last = refl
 
-inner_ed_none : (i : Inner) → wide_step (inner i) 0xED ≡ none
+inner_ed_none : (i : Inner) → wide_step (inner i) 0xED ≡ None
 unfolding wide_step
 inner_ed_none i = rw (inner_ed i)
 
@@ -257,8 +257,8 @@ json_back w (a ∷ b ∷ c ∷ bs) e =
         (o : Option Wide) → Onward (b ∷ c ∷ bs) o →
         ((v : Wide) → wide_from v (b ∷ c ∷ bs) ≡ true → text_of (units between (json_body (b ∷ c ∷ bs) ++ close)) ≡ b ∷ c ∷ bs) →
         text_of (units between (json_body (b ∷ c ∷ bs) ++ close)) ≡ b ∷ c ∷ bs
-    next (some v) (onward k) ih = ih v k
-    next none x6 ih = elim x6 [ ]
+    next (Some v) (onward k) ih = ih v k
+    next None x6 ih = elim x6 [ ]
 
     first :
         (h : Bool) → Lone h b c bs → ((v : Wide) → wide_from v bs ≡ true → text_of (units between (json_body bs ++ close)) ≡ bs) →

@@ -4,12 +4,12 @@ use Prim.Native.Nat.{ℕ, ◌+◌, ◌-◌, ◌*◌, ◌/◌, ◌%◌, ◌≤◌
 use native.Mathlib.Omega.{arith}
 use mathlib.Core.Path.{◌≡◌, refl}
 use mathlib.Core.Bool.{Bool, true, false, ◌&&◌}
-use mathlib.Core.Option.{Option, none, some}
+use Rattle.std.specs.Prelude.{Option, None, Some}
 use mathlib.Core.List.{[], ◌∷◌, ◌++◌, append_assoc}
 use lib.Dec.{leb}
 use borrow.Author.Tests.{leb-true, leb-false, le-leb, lt-leb, ne_eqb, le-ltb}
-use Rattle.model.specs.rules.Types.{Csvj, Dialect, Inner, Char, Whole, Within, Advance, On, HexLeft, Four, Three, Two, One, Text, Cell, Fresh}
-use Rattle.model.specs.rules.Types.{Quoted, Escape, Hex, Complete, More, WholeCell}
+use Rattle.model.specs.rules.Types.{Csvj, Dialect, Inner, Char, Whole, Within, Option, HexLeft, Four, Three, Two, One, Text, Cell, Fresh}
+use Rattle.model.specs.rules.Types.{Quoted, Escape, Hex, Complete, More, Ok}
 use Rattle.model.specs.rules.Base.{Bytes, QUOTE, ◌is◌, choose◌then◌else◌}
 use Rattle.model.specs.rules.Utf8.{char_step, is_surrogate, Wide, gap, ed, lone, inner, wide_step, wide_from, is_content}
 use Rattle.model.specs.rules.Cell.{first_byte, quoted_byte, cell_step, is_whole}
@@ -65,17 +65,17 @@ short b e = there {c' = Escape} refl (there {c' = Quoted Whole} e here)
 
 -- a byte written as it is
 raw_byte :
-    (a : ℕ) (c : Char) → (a is QUOTE) ≡ false → (a is 0x5C) ≡ false → leb 0x20 a ≡ true → char_step Whole a ≡ On c →
+    (a : ℕ) (c : Char) → (a is QUOTE) ≡ false → (a is 0x5C) ≡ false → leb 0x20 a ≡ true → char_step Whole a ≡ Some c →
     Runs Csvj (Quoted Whole) (a ∷ []) (Quoted c)
 unfolding cell_step quoted_byte choose◌then◌else◌
 raw_byte a c q s l e =
     let k : 0x20 ≤ a = leb-true 0x20 a l in
     let x : cell_step Csvj (Quoted Whole) a ≡ More (Quoted c) = rw (q, s, le-ltb a 0x20 k, e) in there x here
 
-same_char : {x y : Char} {o : Advance} → o ≡ On x → o ≡ On y → x ≡ y
+same_char : {x y : Char} {o : Option Char} → o ≡ Some x → o ≡ Some y → x ≡ y
 same_char p q = cc
 
-escaped_runs : (a : ℕ) (c : Char) → char_step Whole a ≡ On c → Runs Csvj (Quoted Whole) (escaped a) (Quoted c)
+escaped_runs : (a : ℕ) (c : Char) → char_step Whole a ≡ Some c → Runs Csvj (Quoted Whole) (escaped a) (Quoted c)
 escaped_runs a c e =
     let P : Bytes → Type 0 = λ l. Runs Csvj (Quoted Whole) l (Quoted c) in
     split P _ (λ k. let p : Whole ≡ c = ascii 0x22 (is→eq a _ k) (omega arith) in rw (← p) (short 0x22 (unfold cell_step choose◌then◌else◌ in refl))) λ q.
@@ -99,13 +99,13 @@ raw_escaped : (a : ℕ) → 0x80 ≤ a → escaped a ≡ a ∷ []
 unfolding choose◌then◌else◌
 raw_escaped a h = rw (ne_eqb a QUOTE (omega arith), ne_eqb a 0x5C (omega arith), le-leb 0x20 a (omega arith))
 
-later_runs : (i : Inner) (a : ℕ) (c : Char) → char_step (Within i) a ≡ On c → Runs Csvj (Quoted (Within i)) (escaped a) (Quoted c)
+later_runs : (i : Inner) (a : ℕ) (c : Char) → char_step (Within i) a ≡ Some c → Runs Csvj (Quoted (Within i)) (escaped a) (Quoted c)
 unfolding cell_step
 later_runs i a c e =
     let x : cell_step Csvj (Quoted (Within i)) a ≡ More (Quoted c) = rw e in
     rw (raw_escaped a (inner_high i a c e)) (there x here)
 
-byte_runs : (x : Char) (a : ℕ) (c : Char) → char_step x a ≡ On c → Runs Csvj (Quoted x) (escaped a) (Quoted c)
+byte_runs : (x : Char) (a : ℕ) (c : Char) → char_step x a ≡ Some c → Runs Csvj (Quoted x) (escaped a) (Quoted c)
 byte_runs Whole a c e = escaped_runs a c e
 byte_runs (Within i) a c e = later_runs i a c e
 
@@ -151,11 +151,11 @@ unfolding wide_from wide_step choose◌then◌else◌
 ed_end h y k e = go (leb y 0xAF) (leb y 0xBF) h refl refl (rw (le-leb 0x80 y (omega arith), lt-leb y 0x9F (omega arith), le-leb 0xA0 y k, wide_from) at e)
   where
     B : Bool → Bool → Bool → Option Wide
-    B s t h = choose s then some (lone true) else (choose (leb 0xB0 y && t) then (choose h then none else some (lone false)) else none)
+    B s t h = choose s then Some (lone true) else (choose (leb 0xB0 y && t) then (choose h then None else Some (lone false)) else None)
 
     go :
         {A : Type 0} (s t h : Bool) → leb y 0xAF ≡ s → leb y 0xBF ≡ t →
-        (elim (B (leb y 0xAF) (leb y 0xBF) h) as (λ _. Bool) [ none ↦ false | some w' ↦ wide_from w' [] ]) ≡ true → A
+        (elim (B (leb y 0xAF) (leb y 0xBF) h) as (λ _. Bool) [ None ↦ false | Some w' ↦ wide_from w' [] ]) ≡ true → A
     go true t h p q x = impossible (rw p at x)
     go false true true p q x = let m : 0xAF < y = leb-false y 0xAF p in impossible (rw (p, le-leb 0xB0 y (omega arith), q) at x)
     go false true false p q x = let m : 0xAF < y = leb-false y 0xAF p in impossible (rw (p, le-leb 0xB0 y (omega arith), q) at x)
@@ -194,7 +194,7 @@ body_writes (x ∷ y ∷ z ∷ bs) w e a =
     (λ t. let r = found w x y z bs t e in rw append_assoc (rw r.1.1 (pair_writes r.1.0 y z bs r.1.2 (body_writes bs))))
     (λ t. rw append_assoc (byte_writes w x (y ∷ z ∷ bs) (step_apart w x (y ∷ z ∷ bs) e a) t (body_writes (y ∷ z ∷ bs))))
 
-pub json_sound : (bs : Bytes) → is_content bs ≡ true → validate_cell Csvj (json_cell Text bs) ≡ WholeCell
+pub json_sound : (bs : Bytes) → is_content bs ≡ true → validate_cell Csvj (json_cell Text bs) ≡ Ok tt
 unfolding validate_cell json_cell is_content char_of cell_step first_byte is_whole choose◌then◌else◌
 json_sound bs e = let x : cell_step Csvj Fresh QUOTE ≡ More (Quoted Whole) = refl in runs_sound 0 (there x (body_writes bs (gap false) e tt)) refl
 

@@ -2,7 +2,7 @@
 use Prim.Native.Nat.{ℕ, suc}
 use mathlib.Core.Path.{◌≡◌, refl, ap}
 use mathlib.Core.Bool.{Bool, true, false}
-use mathlib.Core.Option.{Option, none, some}
+use Rattle.std.specs.Prelude.{Option, None, Some}
 use mathlib.Core.List.{List, [], ◌∷◌, ◌++◌, map}
 use lib.ListN.{length}
 use Rattle.model.specs.rules.Types.{Dialect, Csvj, Tdif, CsvPlus, Target, Fault}
@@ -127,10 +127,10 @@ pub fault_same :
     (d : Dialect) (target : Option Target) (done : List Rec) {vs ws : List Value} → SameCells vs ws →
     record_fault d target done vs ≡ record_fault d target done ws
 unfolding record_fault
-fault_same d none [] e = rw (header_same d e)
-fault_same d (some t) [] e = rw (header_same d e, target_same t true (length (table_text t [])) e)
-fault_same d none (h ∷ rs) e = rw (even_same (length h.cells) e)
-fault_same d (some t) (h ∷ rs) e = rw (even_same (length h.cells) e, target_same t false (length (table_text t (h.cells ∷ rows rs))) e)
+fault_same d None [] e = rw (header_same d e)
+fault_same d (Some t) [] e = rw (header_same d e, target_same t true (length (table_text t [])) e)
+fault_same d None (h ∷ rs) e = rw (even_same (length h.cells) e)
+fault_same d (Some t) (h ∷ rs) e = rw (even_same (length h.cells) e, target_same t false (length (table_text t (h.cells ∷ rows rs))) e)
 
 pub place_free : PlaceFree
 place_free = record { text = λ t header vs ws e. record_same t header e; fault = λ d target done vs ws e. fault_same d target done e }

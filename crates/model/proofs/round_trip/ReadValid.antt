@@ -4,7 +4,7 @@ use native.Mathlib.Omega.{arith}
 use mathlib.Core.Path.{◌≡◌, refl}
 use mathlib.Core.Bool.{Bool, true, false}
 use mathlib.Core.List.{List, [], ◌∷◌}
-use Rattle.model.specs.rules.Types.{Kind, Text, Number, True, False, Null, Dialect, Csvj, Tdif, CsvPlus, Fault, WholeCell, Unsound}
+use Rattle.model.specs.rules.Types.{Kind, Text, Number, True, False, Null, Dialect, Csvj, Tdif, CsvPlus, Fault, Ok, Err}
 use Rattle.model.specs.rules.Base.{Bytes, QUOTE, ◌is◌, choose◌then◌else◌}
 use Rattle.model.specs.rules.Cell.{is_whole}
 use Rattle.model.specs.rules.Decode.{validate_cell, validate_from, kind_of, content_of}
@@ -14,11 +14,10 @@ use Rattle.model.proofs.Tests.{is→eq}
 use Rattle.model.proofs.cell_laws.ContentForm.{content_form}
 use Rattle.model.proofs.round_trip.CellBack.{Valid, v_text, v_number, v_true, v_false, v_null, number_content, valid_value}
 use Rattle.model.proofs.round_trip.WriterBack.{ValueCell}
+use Rattle.model.specs.rules.Types.{cell_fault}
+use Rattle.model.proofs.file_laws.CheckResults.{fault_sound}
 
-no_sound : {A : Type 0} {e : Fault} {i : ℕ} → Unsound e i ≡ WholeCell → A
-no_sound e = let z : ◌≡◌ {A = ℕ} 0 1 = cc in absurd (omega arith)
-
-json_valid : (b : ℕ) (bs : Bytes) → validate_cell Csvj (b ∷ bs) ≡ WholeCell → Valid (kind_of Csvj (b ∷ bs)) (content_of Csvj (b ∷ bs))
+json_valid : (b : ℕ) (bs : Bytes) → validate_cell Csvj (b ∷ bs) ≡ Ok tt → Valid (kind_of Csvj (b ∷ bs)) (content_of Csvj (b ∷ bs))
 json_valid b bs j = go (b is QUOTE) (b is 0x74) (b is 0x66) (b is 0x6E) refl refl refl refl
   where
     by : (k : Kind) → kind_of Csvj (b ∷ bs) ≡ k → Valid k (content_of Csvj (b ∷ bs)) → Valid (kind_of Csvj (b ∷ bs)) (content_of Csvj (b ∷ bs))
@@ -39,7 +38,7 @@ json_valid b bs j = go (b is QUOTE) (b is 0x74) (b is 0x66) (b is 0x6E) refl ref
         let k : kind_of Csvj (b ∷ bs) ≡ Number = unfold kind_of choose◌then◌else◌ in rw (a, c, d, e) in
         by Number k (rw (number_content (b ∷ bs) k j) (v_number k j))
 
-tdif_valid : (b : ℕ) (bs : Bytes) → validate_cell Tdif (b ∷ bs) ≡ WholeCell → Valid (kind_of Tdif (b ∷ bs)) (content_of Tdif (b ∷ bs))
+tdif_valid : (b : ℕ) (bs : Bytes) → validate_cell Tdif (b ∷ bs) ≡ Ok tt → Valid (kind_of Tdif (b ∷ bs)) (content_of Tdif (b ∷ bs))
 tdif_valid b bs j = go (b is QUOTE) refl
   where
     go : (q : Bool) → (b is QUOTE) ≡ q → Valid (kind_of Tdif (b ∷ bs)) (content_of Tdif (b ∷ bs))
@@ -49,11 +48,11 @@ tdif_valid b bs j = go (b is QUOTE) refl
         let w : content_of Tdif (b ∷ bs) ≡ [] = unfold content_of choose◌then◌else◌ in rw a in
         rw (k, w) v_null
 
-raw_valid : (d : Dialect) (raw : Bytes) → validate_cell d raw ≡ WholeCell → Valid (kind_of d raw) (content_of d raw)
+raw_valid : (d : Dialect) (raw : Bytes) → validate_cell d raw ≡ Ok tt → Valid (kind_of d raw) (content_of d raw)
 unfolding validate_cell validate_from is_whole choose◌then◌else◌
-raw_valid Csvj [] j = no_sound j
+raw_valid Csvj [] j = fault_sound j
 raw_valid Csvj (b ∷ bs) j = json_valid b bs j
-raw_valid Tdif [] j = no_sound j
+raw_valid Tdif [] j = fault_sound j
 raw_valid Tdif (b ∷ bs) j = tdif_valid b bs j
 raw_valid (CsvPlus s) raw j = unfold kind_of in v_text (content_form (CsvPlus s) raw j)
 

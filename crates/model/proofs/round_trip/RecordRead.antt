@@ -6,7 +6,7 @@ use native.Mathlib.Nat.{add-zero}
 use native.Mathlib.Numerals.{add-one, add-two}
 use mathlib.Core.Path.{◌≡◌, refl, ap, ◌∙◌}
 use mathlib.Core.Bool.{Bool, true, false, ◌&&◌, ◌||◌}
-use mathlib.Core.Option.{Option}
+use Rattle.std.specs.Prelude.{Option}
 use mathlib.Core.List.{List, [], ◌∷◌, ◌++◌, append_assoc}
 use lib.Dec.{leb}
 use lib.ListN.{length, length-append}
@@ -14,7 +14,7 @@ use Rattle.model.specs.rules.Types.{Delimiter, Comma, Semicolon, Tab, Bar, Quote
 use Rattle.model.specs.rules.Types.{Target, Whole, Within}
 use Rattle.model.specs.rules.Types.{Numeral, Minus, Zero, Integer, Point, Fraction, E, ESign, Exponent, Cell, Fresh, Quoted, Closed, Escape}
 use Rattle.model.specs.rules.Types.{Hex, InNumber, InWord, Plain, Complete, Stop}
-use Rattle.model.specs.rules.Types.{FileState, Begin, ExpectCell, Inside, Cr, Between, Tail, Ends, To, Sound}
+use Rattle.model.specs.rules.Types.{FileState, Begin, ExpectCell, Inside, Cr, Between, Tail, Ends, Ok}
 use Rattle.model.specs.rules.Base.{Bytes, LF, CR, ◌is◌, choose◌then◌else◌, is_empty}
 use Rattle.model.specs.rules.Dialect.{into, quote_of, delimiter_of, delimiter_byte, quote_byte}
 use Rattle.model.specs.rules.Cell.{is_digit, is_numeral, numeral_step, first_byte, plain_byte, cell_step, is_whole}
@@ -172,7 +172,7 @@ end_free : (r : Read) (b : ℕ) → counts r.state b ≡ false → record_full r
 unfolding record_full
 end_free r b k = rw (k, and_false (leb MAXRECORD r.size))
 
-sep_after : (d : Dialect) → after_cell d true (delimiter_of d) ≡ To (next_state d) (Between true)
+sep_after : (d : Dialect) → after_cell d true (delimiter_of d) ≡ Ok (next_state d, Between true)
 unfolding after_cell choose◌then◌else◌
 sep_after Csvj = refl
 sep_after Tdif = refl
@@ -205,14 +205,14 @@ module _ (d : Dialect) (T : Option Target) (ds : List Rec) (s : ℕ) where
 
   -- the record is complete, and nothing is wrong with it
   completed :
-      (r : Read) (vs : List Value) (o z : ℕ) → r.done ≡ ds → r.start ≡ s → r.size ≡ z → record_fault d T ds vs ≡ Sound →
+      (r : Read) (vs : List Value) (o z : ℕ) → r.done ≡ ds → r.start ≡ s → r.size ≡ z → record_fault d T ds vs ≡ Ok tt →
       complete d T r vs Begin o ≡ going (between_records (ds ++ (recorded z vs ∷ [])) Begin o)
   unfolding complete
   completed r vs o z e k m n = rw (e, k, m, n)
 
   lf_read :
-      {f : FileState} {c : Cell} → after_cell d true LF ≡ To Begin (Ends true) → Like d f c → is_whole d c ≡ true →
-      (o z p : ℕ) (raw : Bytes) (vs : List Value) → o < MAXFILE → record_fault d T ds (vs ++ (value_of d p o raw ∷ [])) ≡ Sound →
+      {f : FileState} {c : Cell} → after_cell d true LF ≡ Ok (Begin, Ends true) → Like d f c → is_whole d c ≡ true →
+      (o z p : ℕ) (raw : Bytes) (vs : List Value) → o < MAXFILE → record_fault d T ds (vs ++ (value_of d p o raw ∷ [])) ≡ Ok tt →
       read_byte d T (reading ds f o s z p raw vs) LF
       ≡ going (between_records (ds ++ (recorded z (vs ++ (value_of d p o raw ∷ [])) ∷ [])) Begin (suc o))
   unfolding read_byte move choose◌then◌else◌
@@ -221,7 +221,7 @@ module _ (d : Dialect) (T : Option Target) (ds : List Rec) (s : ℕ) where
       (completed (reading ds f o s z p raw vs) (vs ++ (value_of d p o raw ∷ [])) (suc o) z refl refl refl n)
 
   cr_read :
-      {f : FileState} {c : Cell} → after_cell d true CR ≡ To Cr (Tail true) → Like d f c → is_whole d c ≡ true →
+      {f : FileState} {c : Cell} → after_cell d true CR ≡ Ok (Cr, Tail true) → Like d f c → is_whole d c ≡ true →
       (o z p : ℕ) (raw : Bytes) (vs : List Value) → o < MAXFILE →
       read_byte d T (reading ds f o s z p raw vs) CR ≡ going (reading ds Cr (suc o) s z (suc o) [] (vs ++ (value_of d p o raw ∷ [])))
   unfolding read_byte move choose◌then◌else◌
@@ -229,7 +229,7 @@ module _ (d : Dialect) (T : Option Target) (ds : List Rec) (s : ℕ) where
       rw (file_free (reading ds f o s z p raw vs) h, end_free (reading ds f o s z p raw vs) CR (like_open CR l w refl), close_step CR (by_cr d) l w, a)
 
   crlf_read :
-      file_step d Cr LF ≡ To Begin (Ends false) → (o z p : ℕ) (raw : Bytes) (vs : List Value) → o < MAXFILE → record_fault d T ds vs ≡ Sound →
+      file_step d Cr LF ≡ Ok (Begin, Ends false) → (o z p : ℕ) (raw : Bytes) (vs : List Value) → o < MAXFILE → record_fault d T ds vs ≡ Ok tt →
       read_byte d T (reading ds Cr o s z p raw vs) LF ≡ going (between_records (ds ++ (recorded z vs ∷ [])) Begin (suc o))
   unfolding read_byte move choose◌then◌else◌
   crlf_read a o z p raw vs h n =
@@ -245,7 +245,7 @@ cr_no_delimiter s = go s.delimiter
     go Tab = refl
     go Bar = refl
 
-cr_after : (s : Settings) → after_cell (CsvPlus s) true CR ≡ To Cr (Tail true)
+cr_after : (s : Settings) → after_cell (CsvPlus s) true CR ≡ Ok (Cr, Tail true)
 unfolding after_cell choose◌then◌else◌
 cr_after s = rw (cr_no_delimiter s)
 
@@ -259,7 +259,7 @@ byte_by d T r b q xs e = ap (λ (x : Progress). read_from d T x xs) e
 end_read :
     (d : Dialect) (T : Option Target) (ds : List Rec) (s : ℕ) {f : FileState} {c : Cell} → Like d f c → is_whole d c ≡ true →
     (o z p : ℕ) (raw : Bytes) (vs : List Value) (xs : Bytes) → o + length (ending d) ≤ MAXFILE →
-    record_fault d T ds (vs ++ (value_of d p o raw ∷ [])) ≡ Sound →
+    record_fault d T ds (vs ++ (value_of d p o raw ∷ [])) ≡ Ok tt →
     read_from d T (going (reading ds f o s z p raw vs)) (ending d ++ xs)
     ≡ read_from d T
     (going (between_records (ds ++ (recorded d T ds s z (vs ++ (value_of d p o raw ∷ [])) ∷ [])) Begin (o + length (ending d)))) xs
@@ -301,7 +301,7 @@ module _ (d : Dialect) (T : Option Target) (ds : List Rec) (s : ℕ) where
   at_size cells xs u u' z z' e k = rw (e, k)
 
   abbrev pub Fine : List Value → Type 0
-  Fine all = (vs : List Value) → SameCells vs all → record_fault d T ds vs ≡ Sound
+  Fine all = (vs : List Value) → SameCells vs all → record_fault d T ds vs ≡ Ok tt
 
   -- the current cell is whole, and these come after it
   rest_read :
@@ -351,15 +351,15 @@ module _ (d : Dialect) (T : Option Target) (ds : List Rec) (s : ℕ) where
 
 -- what a row needs to be read back from f
 pub data RowBack : Dialect → FileState → Bool → List Value → Type 0 where
-  row_empty : {f : FileState} {header : Bool} → file_step Csvj f LF ≡ To Begin (Ends false) → counts f LF ≡ false → RowBack Csvj f header []
+  row_empty : {f : FileState} {header : Bool} → file_step Csvj f LF ≡ Ok (Begin, Ends false) → counts f LF ≡ false → RowBack Csvj f header []
   row_cells :
       {d : Dialect} {f : FileState} {header : Bool} {v : Value} {vs : List Value} → Like d f Fresh →
       NoBom f (cell_text d (is_empty vs) header v) → Back d (cell_text d (is_empty vs) header v) v → All (MoreBack d) vs →
       RowBack d f header (v ∷ vs)
 
 empty_read :
-    (T : Option Target) (ds : List Rec) (f : FileState) (o : ℕ) (xs : Bytes) → file_step Csvj f LF ≡ To Begin (Ends false) →
-    counts f LF ≡ false → o < MAXFILE → record_fault Csvj T ds [] ≡ Sound →
+    (T : Option Target) (ds : List Rec) (f : FileState) (o : ℕ) (xs : Bytes) → file_step Csvj f LF ≡ Ok (Begin, Ends false) →
+    counts f LF ≡ false → o < MAXFILE → record_fault Csvj T ds [] ≡ Ok tt →
     read_from Csvj T (going (between_records ds f o)) (LF ∷ xs)
     ≡ read_from Csvj T (going (between_records (ds ++ (recorded Csvj T ds o 0 [] ∷ [])) Begin (suc o))) xs
 unfolding read_byte move choose◌then◌else◌

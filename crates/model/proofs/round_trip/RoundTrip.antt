@@ -3,14 +3,14 @@ use Prim.Native.Nat.{ℕ, suc, ◌≤◌}
 use native.Mathlib.Omega.{arith}
 use mathlib.Core.Path.{◌≡◌, refl, ap, ◌∙◌}
 use mathlib.Core.Bool.{Bool, true, false}
-use mathlib.Core.Option.{Option, none, some}
+use Rattle.std.specs.Prelude.{Option, None, Some}
 use mathlib.Core.List.{List, [], ◌∷◌, ◌++◌, map}
 use lib.Dec.{ltb}
 use lib.ListN.{length}
 use borrow.Author.Tests.{le-ltb, ltb-false}
 use Rattle.model.specs.rules.Types.{Report, Dialect, Target, Encoding, Syntax, Fault, NoRecord, Byte, CutShort, CellCount, RepeatedName}
 use Rattle.model.specs.rules.Types.{HeaderKind, FileTooLong, RecordTooLong, TooManyColumns, NoCells, LacksKind, LoneSurrogate, Clash}
-use Rattle.model.specs.rules.Types.{TextTooLong, OutputTooLong, CheckResult, Sound, Faulty}
+use Rattle.model.specs.rules.Types.{TextTooLong, OutputTooLong, CheckResult, Ok, Err}
 use Rattle.model.specs.rules.Base.{Bytes, concat, choose◌then◌else◌}
 use Rattle.model.specs.rules.Dialect.{dialect_of, into}
 use Rattle.model.specs.rules.Text.{Value, table_text}
@@ -44,12 +44,12 @@ fault_number TextTooLong h = absurd (omega arith)
 fault_number OutputTooLong h = absurd (omega arith)
 
 data Refuses : Option Report → Type 0 where
-  no_report : Refuses none
-  of_fault : {n : ℕ} (e : Fault) → Refuses (some (report (number_of e) n (column_of e) 0))
+  no_report : Refuses None
+  of_fault : {n : ℕ} (e : Fault) → Refuses (Some (report (number_of e) n (column_of e) 0))
 
 next_refuses : (n : ℕ) (v : CheckResult) {next : Option Report} → Refuses next → Refuses (or_next n v next)
-next_refuses n Sound r = r
-next_refuses n (Faulty e) r = of_fault e
+next_refuses n (Ok _) r = r
+next_refuses n (Err e) r = of_fault e
 
 from_refuses : (t : Target) (done rs : List (List Value)) → Refuses (rows_from t done rs)
 unfolding rows_from
@@ -89,9 +89,9 @@ fitted_fits room bs text f = rw (f.same, le-ltb room (length text) f.fits)
 
 pub record Wrote (n : ℕ) (table : Table) (room : ℕ) (text : Bytes) : Type 0 where
   pub dialect : Dialect
-  pub known : dialect_of n ≡ some dialect
+  pub known : dialect_of n ≡ Some dialect
   pub cells : List (List Value)
-  pub table_rows : rows_in table ≡ some cells
+  pub table_rows : rows_in table ≡ Some cells
   pub can_write : Writable dialect cells
   pub spelt : Fitted room (table_text (into dialect) cells) text
 
@@ -100,9 +100,9 @@ unfolding writer
 writer_wrote n table room text e = by_dialect (dialect_of n) refl e
   where
     by_fault :
-        (t : Dialect) (rs : List (List Value)) → dialect_of n ≡ some t → rows_in table ≡ some rs → (o : Option Report) →
+        (t : Dialect) (rs : List (List Value)) → dialect_of n ≡ Some t → rows_in table ≡ Some rs → (o : Option Report) →
         rows_fault (into t) rs ≡ o → Refuses o → written_rows (into t) room rs o ≡ accepts text → Wrote n table room text
-    by_fault t rs p q none f no_report k =
+    by_fault t rs p q None f no_report k =
         let x = rows_even table rs q in
         record {
           dialect = t;
@@ -112,28 +112,28 @@ writer_wrote n table room text e = by_dialect (dialect_of n) refl e
           can_write = even_writable t table.columns table.records rs x.0 x.1 f;
           spelt = fitted_accepts room (table_text (into t) rs) text k;
         }
-    by_fault t rs p q (some y) f (of_fault w) k = no_refusal k (λ h. fault_number w h)
+    by_fault t rs p q (Some y) f (of_fault w) k = no_refusal k (λ h. fault_number w h)
 
     by_rows :
-        (t : Dialect) → dialect_of n ≡ some t → (o : Option (List (List Value))) → rows_in table ≡ o →
-        (elim o as (λ _. Written) [ none ↦ unwritten (refusal 12) | some rs ↦ written_rows (into t) room rs (rows_fault (into t) rs) ])
+        (t : Dialect) → dialect_of n ≡ Some t → (o : Option (List (List Value))) → rows_in table ≡ o →
+        (elim o as (λ _. Written) [ None ↦ unwritten (refusal 12) | Some rs ↦ written_rows (into t) room rs (rows_fault (into t) rs) ])
         ≡ accepts text → Wrote n table room text
-    by_rows t p none q k = no_refusal k (λ h. absurd (omega arith))
-    by_rows t p (some rs) q k = by_fault t rs p q (rows_fault (into t) rs) refl (rows_refuse (into t) rs) k
+    by_rows t p None q k = no_refusal k (λ h. absurd (omega arith))
+    by_rows t p (Some rs) q k = by_fault t rs p q (rows_fault (into t) rs) refl (rows_refuse (into t) rs) k
 
     by_dialect :
         (o : Option Dialect) → dialect_of n ≡ o → (elim o as (λ _. Written) [
-          | none ↦ unwritten (refusal 11)
-          | some t ↦
+          | None ↦ unwritten (refusal 11)
+          | Some t ↦
               elim (rows_in table) as (λ _. Written)
-              [ none ↦ unwritten (refusal 12) | some rs ↦ written_rows (into t) room rs (rows_fault (into t) rs) ]
+              [ None ↦ unwritten (refusal 12) | Some rs ↦ written_rows (into t) room rs (rows_fault (into t) rs) ]
         ]) ≡ accepts text → Wrote n table room text
-    by_dialect none p k = no_refusal k (λ h. absurd (omega arith))
-    by_dialect (some t) p k = by_rows t p (rows_in table) refl k
+    by_dialect None p k = no_refusal k (λ h. absurd (omega arith))
+    by_dialect (Some t) p k = by_rows t p (rows_in table) refl k
 
 -- ---- the reader's answer
 
-pub reader_known : (n : ℕ) (d : Dialect) (text : Bytes) (room : ℕ) → dialect_of n ≡ some d → reader n text room ≡ read_answer (read_file d none text) room
+pub reader_known : (n : ℕ) (d : Dialect) (text : Bytes) (room : ℕ) → dialect_of n ≡ Some d → reader n text room ≡ read_answer (read_file d None text) room
 unfolding reader
 reader_known n d text room e = rw (e, reader)
 
@@ -161,6 +161,6 @@ rows_answer (x ∷ ds) h rs room (and_row c s) l =
 rows_answer [] h rs room x'' l = elim x'' [ ]
 
 pub reader_answers :
-    (n : ℕ) (d : Dialect) (h : List Value) (rs : List (List Value)) (room : ℕ) (text : Bytes) → dialect_of n ≡ some d →
-    Read-as d none text (h ∷ rs) → length (concat (h ∷ rs)) ≤ room → Answers (h ∷ rs) (length h) (reader n text room)
+    (n : ℕ) (d : Dialect) (h : List Value) (rs : List (List Value)) (room : ℕ) (text : Bytes) → dialect_of n ≡ Some d →
+    Read-as d None text (h ∷ rs) → length (concat (h ∷ rs)) ≤ room → Answers (h ∷ rs) (length h) (reader n text room)
 reader_answers n d h rs room text e r l = rw (reader_known n d text room e, r.run) (rows_answer r.end.done h rs room r.same l)

@@ -5,12 +5,12 @@ use native.Mathlib.Omega.{arith}
 use native.Mathlib.Nat.{add-zero}
 use mathlib.Core.Path.{◌≡◌, refl, sym, ap, ◌∙◌}
 use mathlib.Core.Bool.{true, false}
-use mathlib.Core.Option.{Option, none, some}
+use Rattle.std.specs.Prelude.{Option, None, Some}
 use mathlib.Core.List.{List, [], ◌∷◌, ◌++◌, append_assoc, append-nil}
 use lib.Dec.{ltb}
 use lib.ListN.{length, length-append}
 use borrow.Author.Tests.{eq-eqb, le-ltb}
-use Rattle.model.specs.rules.Types.{Dialect, Target, Top, Begin, TooManyColumns, Sound}
+use Rattle.model.specs.rules.Types.{Dialect, Target, Top, Begin, TooManyColumns, Ok}
 use Rattle.model.specs.rules.Base.{Bytes}
 use Rattle.model.specs.rules.Dialect.{into}
 use Rattle.model.specs.rules.File.{file_end}
@@ -29,23 +29,23 @@ use Rattle.model.proofs.round_trip.RecordRead.{RowBack, Finishes, record_read}
 
 -- no target, or the dialect itself
 pub data Own (d : Dialect) : Option Target → Type 0 where
-  own_none : Own d none
-  own_some : Own d (some (into d))
+  own_none : Own d None
+  own_some : Own d (Some (into d))
 
 -- what a data row needs, of a table with this number of columns
 pub record DataBack (d : Dialect) (columns : ℕ) (row : List Value) : Type 0 where
   pub back : RowBack d Begin false row
   pub even : length row ≡ columns
   pub short : length (record_text (into d) false row) ≤ MAXRECORD
-  pub carried : uncarried_from d 1 row ≡ Sound
+  pub carried : uncarried_from d 1 row ≡ Ok tt
 
-even_fine : (n : ℕ) (vs : List Value) → length vs ≡ n → ltb MAXCOLUMNS n ≡ false → data_fault n vs ≡ Sound
+even_fine : (n : ℕ) (vs : List Value) → length vs ≡ n → ltb MAXCOLUMNS n ≡ false → data_fault n vs ≡ Ok tt
 unfolding data_fault when ◌or_else◌
 even_fine n vs e c = rw (e, c, eq-eqb n n refl)
 
 target_fine :
-    (d : Dialect) (written : ℕ) (vs : List Value) → uncarried_from d 1 vs ≡ Sound → length (record_text (into d) false vs) ≤ MAXRECORD →
-    written + length (record_text (into d) false vs ++ ending d) ≤ MAXFILE → target_fault (into d) false written vs ≡ Sound
+    (d : Dialect) (written : ℕ) (vs : List Value) → uncarried_from d 1 vs ≡ Ok tt → length (record_text (into d) false vs) ≤ MAXRECORD →
+    written + length (record_text (into d) false vs ++ ending d) ≤ MAXFILE → target_fault (into d) false written vs ≡ Ok tt
 unfolding target_fault
 target_fine d written vs c k m =
     both_sound (not_when _ refl)
@@ -57,9 +57,9 @@ target_fine d written vs c k m =
 module _ (d : Dialect) (T : Option Target) (own : Own d T) (h : Rec) where
   row_fine :
       {T : Option Target} → Own d T → (ds : List Rec) (vs : List Value) → length vs ≡ length h.cells →
-      ltb MAXCOLUMNS (length h.cells) ≡ false → uncarried_from d 1 vs ≡ Sound → length (record_text (into d) false vs) ≤ MAXRECORD →
+      ltb MAXCOLUMNS (length h.cells) ≡ false → uncarried_from d 1 vs ≡ Ok tt → length (record_text (into d) false vs) ≤ MAXRECORD →
       length (table_text (into d) (rows (h ∷ ds))) + length (record_text (into d) false vs ++ ending d) ≤ MAXFILE →
-      record_fault d T (h ∷ ds) vs ≡ Sound
+      record_fault d T (h ∷ ds) vs ≡ Ok tt
   unfolding record_fault rows
   row_fine own_none ds vs e c u k m = both_sound (even_fine (length h.cells) vs e c) refl
   row_fine own_some ds vs e c u k m = both_sound (even_fine (length h.cells) vs e c) (target_fine d (length (table_text (into d) (rows (h ∷ ds)))) vs u k m)
@@ -123,7 +123,7 @@ module _ (d : Dialect) (T : Option Target) (own : Own d T) (h : Rec) where
       = length-append (t ++ ending d) (data_text (into d) rs) in
       let len' : length (t ++ ending d) ≡ length t + length (ending d) = length-append t (ending d) in
       let len'' : length (data_text (into d) (r ∷ rs)) ≡ length ((t ++ ending d) ++ data_text (into d) rs) = refl in
-      let fine : record_fault d T (h ∷ ds) r ≡ Sound = row_fine own ds r b.even c b.carried b.short (rw w (omega arith)) in
+      let fine : record_fault d T (h ∷ ds) r ≡ Ok tt = row_fine own ds r b.even c b.carried b.short (rw w (omega arith)) in
       let E : Finishes d T (h ∷ ds) o (between_records (h ∷ ds) Begin o) (o + length t + length (ending d)) (length t) (t ++ ending d) r
       = record_read d T (h ∷ ds) Begin false r o b.back (omega arith) b.short (λ vs e. fault_same d T (h ∷ ds) e ∙ fine) in
       let x : Rec = record { start = o; size = length t; cells = E.cells } in
@@ -138,7 +138,7 @@ module _ (d : Dialect) (T : Option Target) (own : Own d T) (h : Rec) where
 -- what a table needs to be read back
 pub data TableBack (d : Dialect) : List (List Value) → Type 0 where
   table_back :
-      {h : List Value} {rs : List (List Value)} → RowBack d Top true h → header_fault d h ≡ Sound → target_fault (into d) true 0 h ≡ Sound →
+      {h : List Value} {rs : List (List Value)} → RowBack d Top true h → header_fault d h ≡ Ok tt → target_fault (into d) true 0 h ≡ Ok tt →
       length (record_text (into d) true h) ≤ MAXRECORD → All (DataBack d (length h)) rs → length (table_text (into d) (h ∷ rs)) ≤ MAXFILE →
       TableBack d (h ∷ rs)
 
@@ -148,13 +148,13 @@ pub record Read-as (d : Dialect) (T : Option Target) (text : Bytes) (rs : List (
   pub run : read_file d T text ≡ going end
   pub same : SameRows (rows end.done) rs
 
-few_columns : (d : Dialect) (h : List Value) → header_fault d h ≡ Sound → ltb MAXCOLUMNS (length h) ≡ false
+few_columns : (d : Dialect) (h : List Value) → header_fault d h ≡ Ok tt → ltb MAXCOLUMNS (length h) ≡ false
 unfolding header_fault
 few_columns d h e = when_sound (ltb MAXCOLUMNS (length h)) TooManyColumns (else_sound (when (ltb MAXCOLUMNS (length h)) TooManyColumns) _ e).0
 
 header_fine :
-    {d : Dialect} {T : Option Target} (h : List Value) → Own d T → header_fault d h ≡ Sound → target_fault (into d) true 0 h ≡ Sound →
-    record_fault d T [] h ≡ Sound
+    {d : Dialect} {T : Option Target} (h : List Value) → Own d T → header_fault d h ≡ Ok tt → target_fault (into d) true 0 h ≡ Ok tt →
+    record_fault d T [] h ≡ Ok tt
 unfolding record_fault table_text
 header_fine h own_none e k = both_sound e refl
 header_fine h own_some e k = both_sound e k

@@ -4,7 +4,7 @@ use native.Mathlib.Omega.{arith}
 use native.Mathlib.Nat.{mul-suc}
 use mathlib.Core.Path.{◌≡◌, refl, sym, ap, ◌∙◌}
 use mathlib.Core.Bool.{◌&&◌}
-use mathlib.Core.Option.{Option, none, some}
+use Rattle.std.specs.Prelude.{Option, None, Some}
 use mathlib.Core.List.{List, [], ◌∷◌}
 use lib.Dec.{leb, ltb, eqb}
 use lib.ListN.{length, take, drop, length-take, length-drop}
@@ -22,12 +22,12 @@ use Rattle.model.proofs.round_trip.WriterBack.{ValueCell}
 -- ---- the cells
 
 data HeldCell : Option Value → Type 0 where
-  no_cell : HeldCell none
-  held_cell : {v : Value} → ValueCell v → HeldCell (some v)
+  no_cell : HeldCell None
+  held_cell : {v : Value} → ValueCell v → HeldCell (Some v)
 
 data HeldCells : Option (List Value) → Type 0 where
-  no_list : HeldCells none
-  held_list : {vs : List Value} → All ValueCell vs → HeldCells (some vs)
+  no_list : HeldCells None
+  held_list : {vs : List Value} → All ValueCell vs → HeldCells (Some vs)
 
 cell_held : (bs : Bytes) (s e n : ℕ) → HeldCell (table_cell bs s e n)
 unfolding table_cell
@@ -35,14 +35,14 @@ cell_held bs s e n = go (kind_named n)
   where
     go :
         (o : Option Kind) → HeldCell (elim o as (λ _. Option Value) [
-          | none ↦ none
-          | some k ↦
-              choose leb s e && leb e (length bs) && is_value k (slice bs s e) then some
+          | None ↦ None
+          | Some k ↦
+              choose leb s e && leb e (length bs) && is_value k (slice bs s e) then Some
               (record { from = s; upto = e; kind = k; content = slice bs s e })
-              else none
+              else None
         ])
-    go none = no_cell
-    go (some k) =
+    go None = no_cell
+    go (Some k) =
         split HeldCell (leb s e && leb e (length bs) && is_value k (slice bs s e))
         (λ t. held_cell (and_true (leb s e && leb e (length bs)) (is_value k (slice bs s e)) t).1) λ _. no_cell
 
@@ -94,8 +94,8 @@ even_rows (suc n) columns vs v e =
     record { values = all_cons (all_take columns v) i.values; even = all_cons (first_long n columns vs e) i.even; count = ap suc i.count }
 
 data HeldRows (columns records : ℕ) : Option (List (List Value)) → Type 0 where
-  not_table : HeldRows columns records none
-  held_rows : {rs : List (List Value)} → Even columns records rs → 0 < records → HeldRows columns records (some rs)
+  not_table : HeldRows columns records None
+  held_rows : {rs : List (List Value)} → Even columns records rs → 0 < records → HeldRows columns records (Some rs)
 
 rows_held : {o : Option (List Value)} (columns records : ℕ) → HeldCells o → HeldRows columns records (table_rows columns records o)
 rows_held columns records no_list = not_table
@@ -110,10 +110,10 @@ table_held : (t : Table) → HeldRows t.columns t.records (rows_in t)
 unfolding rows_in
 table_held t = rows_held t.columns t.records (cells_held t.content t.starts t.ends t.kinds)
 
-open_rows : {columns records : ℕ} {rs : List (List Value)} → HeldRows columns records (some rs) → Even columns records rs × (0 < records)
+open_rows : {columns records : ℕ} {rs : List (List Value)} → HeldRows columns records (Some rs) → Even columns records rs × (0 < records)
 open_rows (held_rows e p) = (e, p)
 
-pub rows_even : (t : Table) (rs : List (List Value)) → rows_in t ≡ some rs → Even t.columns t.records rs × (0 < t.records)
+pub rows_even : (t : Table) (rs : List (List Value)) → rows_in t ≡ Some rs → Even t.columns t.records rs × (0 < t.records)
 rows_even t rs e = open_rows (rw e at (table_held t))
 
 -- ---- rows that pass the writer's checks
@@ -123,7 +123,7 @@ same_all p all_none = all_none
 same_all p (all_cons q qs) = all_cons (q ∙ sym p) (same_all p qs)
 
 pub even_writable :
-    (d : Dialect) (columns records : ℕ) (rs : List (List Value)) → Even columns records rs → 0 < records → rows_fault (into d) rs ≡ none →
+    (d : Dialect) (columns records : ℕ) (rs : List (List Value)) → Even columns records rs → 0 < records → rows_fault (into d) rs ≡ None →
     Writable d rs
 even_writable d columns records [] e p f = let k : 0 ≡ records = e.count in absurd (omega arith)
 even_writable d columns records (h ∷ rs) e p f = go e.even

@@ -4,12 +4,12 @@ use Prim.Native.Nat.{ℕ, ◌<◌}
 use native.Mathlib.Omega.{arith}
 use mathlib.Core.Path.{◌≡◌, refl, sym, ap, ◌∙◌}
 use mathlib.Core.Bool.{Bool, true, false, ◌&&◌, ◌||◌}
-use mathlib.Core.Option.{none, some}
+use Rattle.std.specs.Prelude.{None, Some}
 use mathlib.Core.List.{[], ◌∷◌, ◌++◌}
 use lib.Dec.{leb}
 use borrow.Author.Tests.{leb-false, le-leb, lt-leb, eq-eqb}
-use Rattle.model.specs.rules.Types.{Settings, Dialect, CsvPlus, Ed, Inner, Second, Last, Char, Whole, Within, Advance, On, Broken}
-use Rattle.model.specs.rules.Types.{Text, Cell, Fresh, Quoted, Closed, Plain, More, WholeCell}
+use Rattle.model.specs.rules.Types.{Settings, Dialect, CsvPlus, Ed, Inner, Second, Last, Char, Whole, Within, Option}
+use Rattle.model.specs.rules.Types.{Text, Cell, Fresh, Quoted, Closed, Plain, More, Ok}
 use Rattle.model.specs.rules.Base.{Bytes, LF, CR, QUOTE, ◌is◌, holds, choose◌then◌else◌}
 use Rattle.model.specs.rules.Dialect.{quote_of, delimiter_of}
 use Rattle.model.specs.rules.Utf8.{row_of, leads, lead_byte, inner_step, char_step, text_from, holds_lone, Wide, gap, ed, lone, inner, settled}
@@ -65,7 +65,7 @@ pair a (b ∷ bs) = a is 0xED && leb 0xA0 b
 
 -- what a step of content does, apart from surrogates: as UTF-8
 pub data Steps (w : Wide) (b : ℕ) (bs : Bytes) : Type 0 where
-  steps : (w' : Wide) → char_step (char_of w) b ≡ On (char_of w') → wide_from w' bs ≡ true → (pair b bs ≡ false → Apart w' bs) → Steps w b bs
+  steps : (w' : Wide) → char_step (char_of w) b ≡ Some (char_of w') → wide_from w' bs ≡ true → (pair b bs ≡ false → Apart w' bs) → Steps w b bs
 
 lone_after_ed : (bs : Bytes) (b : ℕ) (h : Bool) → (b is 0xED) ≡ true → pair b bs ≡ false → Apart (ed h) bs
 lone_after_ed [] b h e k = tt
@@ -91,12 +91,12 @@ lone_tail b (c ∷ bs) k = go ((b is 0xED) && leb 0xA0 c) refl
     go true p = impossible (sym (rw p at k))
 
 settled_steps :
-    (w : Wide) (b : ℕ) (bs : Bytes) (o : Advance) → char_step (char_of w) b ≡ o →
-    (elim (settle o) as (λ _. Bool) [ none ↦ false | some w' ↦ wide_from w' bs ]) ≡ true → Steps w b bs
-settled_steps w b bs Broken e h = impossible h
-settled_steps w b bs (On c) e h = steps (settled c) (rw (char_settled c) e) h (λ _. apart_settled c bs)
+    (w : Wide) (b : ℕ) (bs : Bytes) (o : Option Char) → char_step (char_of w) b ≡ o →
+    (elim (settle o) as (λ _. Bool) [ None ↦ false | Some w' ↦ wide_from w' bs ]) ≡ true → Steps w b bs
+settled_steps w b bs None e h = impossible h
+settled_steps w b bs (Some c) e h = steps (settled c) (rw (char_settled c) e) h (λ _. apart_settled c bs)
 
-ed_char : (b : ℕ) → (b is 0xED) ≡ true → char_step Whole b ≡ On (Within (Second Ed))
+ed_char : (b : ℕ) → (b is 0xED) ≡ true → char_step Whole b ≡ Some (Within (Second Ed))
 unfolding char_step lead_byte leads row_of choose◌then◌else◌
 ed_char b e = rw (is→eq b 0xED e)
 
@@ -156,14 +156,14 @@ quote_opens : (d : Dialect) → cell_step d Closed (quote_of d) ≡ More (Quoted
 unfolding cell_step choose◌then◌else◌
 quote_opens d = rw (same_byte (quote_of d))
 
-quoted_char : {d : Dialect} (b : ℕ) (c : Char) → Doubles d → (b is quote_of d) ≡ false → char_step Whole b ≡ On c → cell_step d (Quoted Whole) b ≡ More (Quoted c)
+quoted_char : {d : Dialect} (b : ℕ) (c : Char) → Doubles d → (b is quote_of d) ≡ false → char_step Whole b ≡ Some c → cell_step d (Quoted Whole) b ≡ More (Quoted c)
 unfolding cell_step quoted_byte choose◌then◌else◌
 quoted_char b c d_tdif n e = rw (n, e)
 quoted_char b c d_plus n e = rw (n, e)
 
 later_char :
     (d : Dialect) (f : Char → Cell) (i : Inner) (b : ℕ) (c : Char) → cell_step d (f (Within i)) b ≡ text_byte f (char_step (Within i) b) →
-    char_step (Within i) b ≡ On c → cell_step d (f (Within i)) b ≡ More (f c)
+    char_step (Within i) b ≡ Some c → cell_step d (f (Within i)) b ≡ More (f c)
 later_char d f i b c k e = rw (k, e)
 
 abbrev body_of : Dialect → Bytes → Bytes
@@ -187,7 +187,7 @@ module _ (d : Dialect) (k : Doubles d) where
       go false e = rw (doubled_other b bs e) (there (quoted_char b c k e p) (ih c h))
       go true e =
           let q : b ≡ quote_of d = is→eq b (quote_of d) e in
-          let x : On c ≡ On Whole = sym p ∙ ap (λ (y : ℕ). char_step Whole y) q ∙ ascii_whole (quote_of d) (quote_ascii d) in
+          let x : Some c ≡ Some Whole = sym p ∙ ap (λ (y : ℕ). char_step Whole y) q ∙ ascii_whole (quote_of d) (quote_ascii d) in
           let y : c ≡ Whole = cc in
           rw (doubled_quote b bs e) (there (quote_closes k) (there (quote_opens d) (ih Whole (rw y at h))))
 
@@ -205,7 +205,7 @@ module _ (d : Dialect) (k : Doubles d) where
   body_runs Whole (b ∷ bs) h = body_step b bs (text_on Whole b bs h) (λ c. body_runs c bs)
   body_runs (Within i) (b ∷ bs) h = later_step i b bs (text_on (Within i) b bs h) (λ c. body_runs c bs)
 
-  pub quoted_sound : (bs : Bytes) → text_from Whole bs ≡ true → validate_cell d (quoted_text (quote_of d) bs) ≡ WholeCell
+  pub quoted_sound : (bs : Bytes) → text_from Whole bs ≡ true → validate_cell d (quoted_text (quote_of d) bs) ≡ Ok tt
   unfolding validate_cell quoted_text is_whole
   quoted_sound bs h = runs_sound 0 (there (first_quote k) (body_runs Whole bs h)) refl
 
@@ -234,11 +234,11 @@ usual s b e =
     record { no_quote = z.0; no_end = rw (z.1, y.1, x.1) }
 
 module _ (s : Settings) where
-  fresh_char : (b : ℕ) (c : Char) → Usual s b → char_step Whole b ≡ On c → cell_step (CsvPlus s) Fresh b ≡ More (Plain c)
+  fresh_char : (b : ℕ) (c : Char) → Usual s b → char_step Whole b ≡ Some c → cell_step (CsvPlus s) Fresh b ≡ More (Plain c)
   unfolding cell_step first_byte choose◌then◌else◌
   fresh_char b c u e = rw (u.no_quote, u.no_end, e)
 
-  plain_char : (b : ℕ) (c : Char) → Usual s b → char_step Whole b ≡ On c → cell_step (CsvPlus s) (Plain Whole) b ≡ More (Plain c)
+  plain_char : (b : ℕ) (c : Char) → Usual s b → char_step Whole b ≡ Some c → cell_step (CsvPlus s) (Plain Whole) b ≡ More (Plain c)
   unfolding cell_step plain_byte choose◌then◌else◌
   plain_char b c u e = rw (u.no_quote, u.no_end, e)
 
@@ -267,12 +267,12 @@ module _ (s : Settings) where
   plain_runs (b ∷ bs) Whole h k = plain_step b bs (text_on Whole b bs h) k (plain_runs bs)
   plain_runs (b ∷ bs) (Within i) h k = plain_later i b bs (text_on (Within i) b bs h) k (plain_runs bs)
 
-  pub plain_sound : (bs : Bytes) → text_from Whole bs ≡ true → holds (special s) bs ≡ false → validate_cell (CsvPlus s) bs ≡ WholeCell
+  pub plain_sound : (bs : Bytes) → text_from Whole bs ≡ true → holds (special s) bs ≡ false → validate_cell (CsvPlus s) bs ≡ Ok tt
   unfolding validate_cell is_whole
   plain_sound [] h k = runs_sound 0 here refl
   plain_sound (b ∷ bs) h k = first (text_on Whole b bs h)
     where
-      first : TextStep Whole b bs → validate_from (CsvPlus s) Fresh 0 (b ∷ bs) ≡ WholeCell
+      first : TextStep Whole b bs → validate_from (CsvPlus s) Fresh 0 (b ∷ bs) ≡ Ok tt
       first (text_step c p t) = let x = unusual b bs k in runs_sound 0 (there (fresh_char b c x.0 p) (plain_runs bs c t x.1)) refl
 
   pub plain_content : (bs : Bytes) → holds (special s) bs ≡ false → content_of (CsvPlus s) bs ≡ bs

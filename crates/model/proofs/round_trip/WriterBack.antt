@@ -5,12 +5,12 @@ use native.Mathlib.Omega.{arith}
 use native.Mathlib.Nat.{add-zero}
 use mathlib.Core.Path.{◌≡◌, refl, sym, ap, ◌∙◌}
 use mathlib.Core.Bool.{Bool, true, false, not, ◌&&◌, ◌||◌}
-use mathlib.Core.Option.{Option, none, some}
+use Rattle.std.specs.Prelude.{Option, None, Some}
 use mathlib.Core.List.{List, [], ◌∷◌, ◌++◌, append-nil}
 use lib.Dec.{ltb}
 use lib.ListN.{length, length-append}
 use Rattle.model.specs.rules.Types.{Report, Kind, Text, Number, True, False, Null, Quote, Double, Single, Dialect, Csvj, Tdif, CsvPlus, Top, Begin}
-use Rattle.model.specs.rules.Types.{TooManyColumns, HeaderKind, LacksKind, LoneSurrogate, CheckResult, Sound, Faulty}
+use Rattle.model.specs.rules.Types.{TooManyColumns, HeaderKind, LacksKind, LoneSurrogate, CheckResult, Ok, Err}
 use Rattle.model.specs.rules.Base.{Bytes, QUOTE, ◌is◌, holds, choose◌then◌else◌, is_empty}
 use Rattle.model.specs.rules.Dialect.{into, quote_of, quote_byte, is_csvj}
 use Rattle.model.specs.rules.File.{begin_record, begin_file, file_step, counts}
@@ -41,7 +41,7 @@ not_false false e = impossible (sym e)
 abbrev pub ValueCell : Value → Type 0
 ValueCell v = is_value v.kind v.content ≡ true
 
-pub carried_all : (t : Dialect) (n : ℕ) {vs : List Value} → All ValueCell vs → uncarried_from t n vs ≡ Sound → All (Carried t) vs
+pub carried_all : (t : Dialect) (n : ℕ) {vs : List Value} → All ValueCell vs → uncarried_from t n vs ≡ Ok tt → All (Carried t) vs
 unfolding uncarried_from
 carried_all t n all_none e = all_none
 carried_all t n (all_cons {x} v vs) e =
@@ -54,14 +54,14 @@ carried_all t n (all_cons {x} v vs) e =
 abbrev TextCell : Value → Type 0
 TextCell v = is_text v.kind ≡ true
 
-text_all : (n : ℕ) (vs : List Value) → header_kind_from n vs ≡ Sound → All TextCell vs
+text_all : (n : ℕ) (vs : List Value) → header_kind_from n vs ≡ Ok tt → All TextCell vs
 unfolding header_kind_from
 text_all n [] e = all_none
 text_all n (v ∷ vs) e =
     let a = else_sound (when (not (is_text v.kind)) (HeaderKind n)) _ e in
     all_cons (not_false (is_text v.kind) (when_sound _ _ a.0)) (text_all (suc n) vs a.1)
 
-header_text : (d : Dialect) (vs : List Value) → header_fault d vs ≡ Sound → All TextCell vs
+header_text : (d : Dialect) (vs : List Value) → header_fault d vs ≡ Ok tt → All TextCell vs
 unfolding header_fault
 header_text d vs e =
     let a = else_sound (when (ltb MAXCOLUMNS (length vs)) TooManyColumns) _ e in
@@ -120,7 +120,7 @@ header_row (CsvPlus s) [] f all_none t = impossible f
 header_row d (v ∷ vs) f (all_cons x xs) (all_cons t ts) =
     row_cells like_top (first_clear d (is_empty vs) v t) (cell_back d (is_empty vs) true v x) (more_all d xs)
 
-pub header_back : (d e : Dialect) (vs : List Value) → has_cells d vs ≡ true → All (Carried d) vs → header_fault e vs ≡ Sound → RowBack d Top true vs
+pub header_back : (d e : Dialect) (vs : List Value) → has_cells d vs ≡ true → All (Carried d) vs → header_fault e vs ≡ Ok tt → RowBack d Top true vs
 header_back d e vs f c h = header_row d vs f c (header_text e vs h)
 
 pub has_cells_lem : (t : Dialect) (vs : List Value) → (true && is_empty vs && not (is_csvj t)) ≡ false → has_cells t vs ≡ true
@@ -147,12 +147,12 @@ record_trip d target (h ∷ rs) o vs c f s k m =
 
 -- ---- the table
 
-some_none : {A : Type 0} {e : Report} → some e ≡ none → A
+some_none : {A : Type 0} {e : Report} → Some e ≡ None → A
 some_none e = let z : ◌≡◌ {A = ℕ} 0 1 = cc in absurd (omega arith)
 
-pub next_none : (n : ℕ) (v : CheckResult) (next : Option Report) → or_next n v next ≡ none → (v ≡ Sound) × (next ≡ none)
-next_none n Sound next e = (refl, e)
-next_none n (Faulty f) next e = some_none e
+pub next_none : (n : ℕ) (v : CheckResult) (next : Option Report) → or_next n v next ≡ None → (v ≡ Ok tt) × (next ≡ None)
+next_none n (Ok _) next e = (refl, e)
+next_none n (Err f) next e = some_none e
 
 module _ (d : Dialect) (h : List Value) (filled : has_cells d h ≡ true) where
   record Rows (done rs : List (List Value)) : Type 0 where
@@ -161,7 +161,7 @@ module _ (d : Dialect) (h : List Value) (filled : has_cells d h ≡ true) where
 
   data_rows :
       (done rs : List (List Value)) → All (All ValueCell) rs → All (λ (r : List Value). length r ≡ length h) rs →
-      length (table_text (into d) (h ∷ done)) ≤ MAXFILE → rows_from (into d) (h ∷ done) rs ≡ none → Rows done rs
+      length (table_text (into d) (h ∷ done)) ≤ MAXFILE → rows_from (into d) (h ∷ done) rs ≡ None → Rows done rs
   unfolding rows_from data_text
   data_rows done [] all_none all_none m e = record { backs = all_none; fits = rw (add-zero (length (table_text (into d) (h ∷ done)))) m }
   data_rows done (r ∷ rs) (all_cons v vs) (all_cons l ls) m e =

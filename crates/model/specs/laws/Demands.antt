@@ -1,6 +1,6 @@
 -- Demand 3 as statements over the definitions, with demand 2's round trip. Proved in proofs/AllDemands.antt.
 use Rattle.std.specs.Prelude.{ℕ, ◌≤◌, ◌≡◌, true, false, List, [], ◌∷◌, ◌++◌, map, length}
-use Rattle.std.proofs.Math.Option.{none, some}
+use Rattle.std.specs.Prelude.{None, Some}
 use Rattle.model.specs.rules.Types.{Report, Dialect, Target}
 use Rattle.model.specs.rules.Base.{choose◌then◌else◌, Bytes, concat}
 use Rattle.model.specs.rules.Dialect.{dialect_of, into}
@@ -16,12 +16,12 @@ use Rattle.model.specs.laws.RoundTrips.{RoundTrip}
 
 -- what these calls have shown of the file (§16.5 §16.6)
 abbrev pub seen_in : Dialect → Target → List Entry → Progress
-seen_in d t past = choose closed_in past then read_file d (some t) (consumed_in past) else read_bytes d (some t) (consumed_in past)
+seen_in d t past = choose closed_in past then read_file d (Some t) (consumed_in past) else read_bytes d (Some t) (consumed_in past)
 
 -- the outputs of any list of calls, joined, are the canonical text of the records completed in the bytes consumed (§19.4)
 abbrev pub JoinedOutputs : Type 0
 JoinedOutputs =
-    (m n : ℕ) (d t : Dialect) (cs : List Call) → dialect_of m ≡ some d → dialect_of n ≡ some t →
+    (m n : ℕ) (d t : Dialect) (cs : List Call) → dialect_of m ≡ Some d → dialect_of n ≡ Some t →
     written_in (history m n cs) ≡ table_text (into t) (rows (records_of (seen_in d (into t) (history m n cs))))
 
 -- no call writes more than its room: the output that the rules require is enough (§15.11)
@@ -58,8 +58,8 @@ EndIsWhole =
 -- a fault found by a piece call is the fault of every file that begins with the bytes consumed (§16.5 §16.7)
 abbrev pub FaultOfEveryFile : Type 0
 FaultOfEveryFile =
-    (m n : ℕ) (cs : List Call) (bs rest : Bytes) (room : ℕ) (e : Report) → fault_in (history m n cs) ≡ none →
-    fault_in (history m n (cs ++ (piece bs room ∷ []))) ≡ some e →
+    (m n : ℕ) (cs : List Call) (bs rest : Bytes) (room : ℕ) (e : Report) → fault_in (history m n cs) ≡ None →
+    fault_in (history m n (cs ++ (piece bs room ∷ []))) ≡ Some e →
     (converter m n (consumed_in (history m n (cs ++ (piece bs room ∷ []))) ++ rest) MAXFILE).report ≡ e
 
 -- ---- demand 3: code

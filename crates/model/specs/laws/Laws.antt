@@ -1,7 +1,7 @@
 -- The laws of the definitions, as statements over any dialect, with a target or without. Proved in proofs/Laws.antt.
 use Rattle.std.specs.Prelude.{ℕ, ◌+◌, ◌*◌, ◌≤◌, ◌≡◌, ◌↔◌, Bool, true, false, List, [], ◌∷◌, ◌++◌, length}
-use Rattle.std.proofs.Math.Option.{Option}
-use Rattle.model.specs.rules.Types.{Dialect, Target, FileState, ByteFault, Encoding, Syntax, Fault, Byte, WholeCell}
+use Rattle.std.specs.Prelude.{Option}
+use Rattle.model.specs.rules.Types.{Dialect, Target, FileState, ByteFault, Encoding, Syntax, Fault, Byte, Ok}
 use Rattle.model.specs.rules.Base.{Bytes}
 use Rattle.model.specs.rules.Utf8.{is_content}
 use Rattle.model.specs.rules.Decode.{kind_of, content_of, validate_cell}
@@ -24,7 +24,7 @@ pub record Grows {ℓ} {A : Type ℓ} (a b : List A) : Type ℓ where
 -- a cell that was read is a raw cell that the decoder accepts, with this kind and content (§11.1)
 pub record SoundCell (d : Dialect) (v : Value) : Type 0 where
   pub raw : Bytes
-  pub sound : validate_cell d raw ≡ WholeCell
+  pub sound : validate_cell d raw ≡ Ok tt
   pub kind : v.kind ≡ kind_of d raw
   pub content : v.content ≡ content_of d raw
 
@@ -76,6 +76,6 @@ pub record Laws : Type 0 where
       (d : Dialect) (target : Option Target) (xs : Bytes) (r : Read) (b : ℕ) → read_bytes d target xs ≡ going r → file_full r ≡ false →
       record_full r b ≡ false → NextByteLaws d target xs r b
   -- decoded content has its form: UTF-8, lone surrogates, never a high one directly before a low one (§2.6 §2.9)
-  pub content_form : (d : Dialect) (raw : Bytes) → validate_cell d raw ≡ WholeCell → is_content (content_of d raw) ≡ true
+  pub content_form : (d : Dialect) (raw : Bytes) → validate_cell d raw ≡ Ok tt → is_content (content_of d raw) ≡ true
   -- decoded content is no longer than the raw cell
   pub content_length : (d : Dialect) (raw : Bytes) → length (content_of d raw) ≤ length raw

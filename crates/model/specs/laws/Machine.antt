@@ -1,7 +1,7 @@
 -- The ledger as a state machine, one call at a time. All that a converter needs from the earlier calls is the reading state, or the
 -- fault found, or that the end was accepted. Proved in proofs/piece_laws/MachineLaws.antt.
 use Rattle.std.specs.Prelude.{ℕ, ◌≡◌, Bool, true, false, List, [], ◌∷◌, ◌++◌, length, drop}
-use Rattle.std.proofs.Math.Option.{none, some}
+use Rattle.std.specs.Prelude.{None, Some}
 use Rattle.model.specs.rules.Types.{Report, Dialect, Target, Fault}
 use Rattle.model.specs.rules.Base.{choose◌then◌else◌, Bytes, is_empty}
 use Rattle.model.specs.rules.Dialect.{dialect_of, into}
@@ -22,8 +22,8 @@ pub data ConverterStage : Type 0 where
 
 -- what a call that is taken has read, with its own bytes (§16.5 §16.6)
 abbrev pub seen_from : Dialect → Target → Read → Call → Progress
-seen_from d t r (piece bs room) = read_from d (some t) (going r) bs
-seen_from d t r (finish room) = read_end d (some t) (going r)
+seen_from d t r (piece bs room) = read_from d (Some t) (going r) bs
+seen_from d t r (finish room) = read_end d (Some t) (going r)
 
 -- the answer to a call at a stage (§15.5 §15.6 §15.7 §16.7)
 unfoldable pub answer_at : Dialect → Target → ConverterStage → Call → Written
@@ -54,13 +54,13 @@ checked_at ended c = true
 -- after these calls the converter is at this stage, and they have written the canonical text of the records completed (§16.3 §16.7)
 pub data LiesAt (d : Dialect) (t : Target) (past : List Entry) : ConverterStage → Type 0 where
   stood_taking :
-      {r : Read} → fault_in past ≡ none → ended_in past ≡ false → read_bytes d (some t) (consumed_in past) ≡ going r →
+      {r : Read} → fault_in past ≡ None → ended_in past ≡ false → read_bytes d (Some t) (consumed_in past) ≡ going r →
       written_in past ≡ table_text t (rows r.done) → LiesAt d t past (taking r)
   stood_faulted :
-      {e : Report} (f : Fault) (r : Read) → e ≡ fault_report f r → fault_in past ≡ some e → seen_in d t past ≡ stopped f r →
+      {e : Report} (f : Fault) (r : Read) → e ≡ fault_report f r → fault_in past ≡ Some e → seen_in d t past ≡ stopped f r →
       written_in past ≡ table_text t (rows r.done) → LiesAt d t past (faulted e)
   stood_ended :
-      (r : Read) → fault_in past ≡ none → ended_in past ≡ true → read_file d (some t) (consumed_in past) ≡ going r →
+      (r : Read) → fault_in past ≡ None → ended_in past ≡ true → read_file d (Some t) (consumed_in past) ≡ going r →
       written_in past ≡ table_text t (rows r.done) → LiesAt d t past ended
 
 -- between two known dialects the ledger follows the machine (§16.1 §16.3)
@@ -75,7 +75,7 @@ pub record MachineLaws (m n : ℕ) (d : Dialect) (t : Target) : Type 0 where
 
 -- the same for all dialect numbers that are known (§16.1)
 abbrev pub Machine : Type 0
-Machine = (m n : ℕ) (d t : Dialect) → dialect_of m ≡ some d → dialect_of n ≡ some t → MachineLaws m n d (into t)
+Machine = (m n : ℕ) (d t : Dialect) → dialect_of m ≡ Some d → dialect_of n ≡ Some t → MachineLaws m n d (into t)
 
 -- a number that is no dialect: every call is 11, by a check (§15.4)
 pub record UnknownLaws (m n : ℕ) : Type 0 where
@@ -84,8 +84,8 @@ pub record UnknownLaws (m n : ℕ) : Type 0 where
 
 -- the same for either number (§15.4)
 pub record Unknown : Type 0 where
-  pub source : (m n : ℕ) → dialect_of m ≡ none → UnknownLaws m n
-  pub target : (m n : ℕ) → dialect_of n ≡ none → UnknownLaws m n
+  pub source : (m n : ℕ) → dialect_of m ≡ None → UnknownLaws m n
+  pub target : (m n : ℕ) → dialect_of n ≡ None → UnknownLaws m n
 
 -- ---- a state of the code
 
@@ -93,10 +93,10 @@ pub record Unknown : Type 0 where
 -- has answered these calls (§15.3)
 pub data Carries {S : Type 0} (Models : ℕ → ℕ → ConverterStage → S → Type 0) (m n : ℕ) (past : List Entry) (s : S) : Type 0 where
   carries_known :
-      (d t : Dialect) (w : ConverterStage) → dialect_of m ≡ some d → dialect_of n ≡ some t → LiesAt d (into t) past w → Models m n w s →
+      (d t : Dialect) (w : ConverterStage) → dialect_of m ≡ Some d → dialect_of n ≡ Some t → LiesAt d (into t) past w → Models m n w s →
       Carries Models m n past s
-  carries_source : dialect_of m ≡ none → Models m n ended s → Carries Models m n past s
-  carries_target : dialect_of n ≡ none → Models m n ended s → Carries Models m n past s
+  carries_source : dialect_of m ≡ None → Models m n ended s → Carries Models m n past s
+  carries_target : dialect_of n ≡ None → Models m n ended s → Carries Models m n past s
 
 -- ---- what a call writes
 

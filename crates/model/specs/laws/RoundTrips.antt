@@ -1,7 +1,7 @@
 -- The round trips, written and read back, as statements over any dialect. Proved in proofs/round_trip/AllTrips.antt.
 use Rattle.std.specs.Prelude.{ℕ, suc, ◌+◌, ◌≤◌, ◌≡◌, Bool, true, false, not, ◌&&◌, List, [], ◌∷◌, ◌++◌, map, length}
-use Rattle.std.proofs.Math.Option.{Option, none, some}
-use Rattle.model.specs.rules.Types.{Kind, Dialect, Target, FileState, Top, Begin, Sound, WholeCell}
+use Rattle.std.specs.Prelude.{Option, None, Some}
+use Rattle.model.specs.rules.Types.{Kind, Dialect, Target, FileState, Top, Begin, Ok}
 use Rattle.model.specs.rules.Base.{Bytes, is_empty, concat}
 use Rattle.model.specs.rules.Dialect.{into, is_csvj}
 use Rattle.model.specs.rules.Decode.{kind_number, kind_of, content_of, validate_cell}
@@ -40,7 +40,7 @@ pub record Carried (t : Dialect) (v : Value) : Type 0 where
 
 -- these raw bytes are a cell that the decoder accepts, with this cell's kind and content (§11.1)
 pub record Back (d : Dialect) (raw : Bytes) (v : Value) : Type 0 where
-  pub sound : validate_cell d raw ≡ WholeCell
+  pub sound : validate_cell d raw ≡ Ok tt
   pub kind : kind_of d raw ≡ v.kind
   pub content : content_of d raw ≡ v.content
 
@@ -71,7 +71,7 @@ pub data Writable (t : Dialect) : List (List Value) → Type 0 where
   writable :
       {h : List Value} {rs : List (List Value)} →
       All (All (λ (v : Value). is_value v.kind v.content ≡ true)) (h ∷ rs) →
-      All (λ (r : List Value). length r ≡ length h) rs → rows_fault (into t) (h ∷ rs) ≡ none → Writable t (h ∷ rs)
+      All (λ (r : List Value). length r ≡ length h) rs → rows_fault (into t) (h ∷ rs) ≡ None → Writable t (h ∷ rs)
 
 -- the file is accepted, and its records mean these rows (§19.3)
 pub record ReadAs (d : Dialect) (target : Option Target) (text : Bytes) (rs : List (List Value)) : Type 0 where
@@ -110,7 +110,7 @@ CellTrip = (t : Dialect) (only first : Bool) (v : Value) → Carried t v → Bac
 abbrev pub RecordTrip : Type 0
 RecordTrip =
     (d : Dialect) (target : Option Target) (done : List Rec) (o : ℕ) (vs : List Value) →
-    All (Carried d) vs → has_cells d vs ≡ true → record_fault d target done vs ≡ Sound →
+    All (Carried d) vs → has_cells d vs ≡ true → record_fault d target done vs ≡ Ok tt →
     length (record_text (into d) (is_empty done) vs) ≤ MAXRECORD →
     o + length (record_text (into d) (is_empty done) vs) + length (ending d) ≤ MAXFILE → Completed d target done o vs
 
@@ -118,12 +118,12 @@ RecordTrip =
 abbrev pub TableTrip : Type 0
 TableTrip =
     (d : Dialect) (rs : List (List Value)) → Writable d rs →
-    ReadAs d none (table_text (into d) rs) rs × ReadAs d (some (into d)) (table_text (into d) rs) rs
+    ReadAs d None (table_text (into d) rs) rs × ReadAs d (Some (into d)) (table_text (into d) rs) rs
 
 -- what the writer accepted is read back by the reader, and each span decodes to the cell that was written (§19.3)
 abbrev pub RoundTrip : Type 0
 RoundTrip =
-    (n : ℕ) (table : Table) (rs : List (List Value)) (room places : ℕ) (text : Bytes) → rows_in table ≡ some rs →
+    (n : ℕ) (table : Table) (rs : List (List Value)) (room places : ℕ) (text : Bytes) → rows_in table ≡ Some rs →
     writer n table room ≡ record { report = accepted; text = text } → length (concat rs) ≤ places →
     ReadsBack n table rs text (reader n text places)
 

@@ -3,10 +3,10 @@
 -- reading is scanning from record to record, with or without a target (`ScanReads`); places may be counted from anywhere (`Shift`);
 -- and what was read before the part may be prepended afterwards (`View`).
 use Rattle.std.specs.Prelude.{ℕ, suc, ◌+◌, ◌-◌, ◌≤◌, ◌≡◌, Bool, true, false, ◌&&◌, List, [], ◌∷◌, ◌++◌, map, length, leb}
-use Rattle.std.proofs.Math.Option.{Option}
+use Rattle.std.specs.Prelude.{Option}
 use Rattle.model.specs.rules.Types.{Dialect, Target, FileState, Top, Begin, Ended, Bom1, Bom2, PlainBom1, PlainBom2, Comment, Blanks}
-use Rattle.model.specs.rules.Types.{ExpectCell, Inside, After, Cr, Outside, Passed, OfCell, Between, Tail, Ends, Step, To, Reject, Fault, Byte}
-use Rattle.model.specs.rules.Types.{FileTooLong, RecordTooLong, Sound, Faulty}
+use Rattle.model.specs.rules.Types.{ExpectCell, Inside, After, Cr, Outside, Passed, OfCell, Between, Tail, Ends, Step, Ok, Err, Fault, Byte}
+use Rattle.model.specs.rules.Types.{FileTooLong, RecordTooLong}
 use Rattle.model.specs.rules.Base.{choose◌then◌else◌, ◌is◌, Bytes}
 use Rattle.model.specs.rules.File.{file_step, counts}
 use Rattle.model.specs.rules.Decode.{kind_of, content_of}
@@ -49,11 +49,11 @@ scan_between f o = record { state = f; offset = o; start = o; size = 0; opened =
 
 -- the byte b takes this step; `more` is the result of scanning after it, and `left` are the bytes after it (§7.4 §6.20)
 unfoldable pub scan_step : Scan → (b : ℕ) → (left : Bytes) → (more : Scan → ScanResult) → Step → ScanResult
-scan_step s b left more (Reject e) = fails (Byte e) s
-scan_step s b left more (To f Outside) =
+scan_step s b left more (Err e) = fails (Byte e) s
+scan_step s b left more (Ok (f, Outside)) =
     more (record { state = f; offset = suc s.offset; start = s.start; size = 0; opened = suc s.offset; raw = []; cells = [] })
-scan_step s b left more (To f Passed) = more (scan_between f (suc s.offset))
-scan_step s b left more (To f OfCell) =
+scan_step s b left more (Ok (f, Passed)) = more (scan_between f (suc s.offset))
+scan_step s b left more (Ok (f, OfCell)) =
     more (record {
       state = f;
       offset = suc s.offset;
@@ -63,7 +63,7 @@ scan_step s b left more (To f OfCell) =
       raw = s.raw ++ (b ∷ []);
       cells = s.cells;
     })
-scan_step s b left more (To f (Between closes)) =
+scan_step s b left more (Ok (f, Between closes)) =
     more (record {
       state = f;
       offset = suc s.offset;
@@ -73,9 +73,9 @@ scan_step s b left more (To f (Between closes)) =
       raw = [];
       cells = closing_raw closes s;
     })
-scan_step s b left more (To f (Tail closes)) =
+scan_step s b left more (Ok (f, Tail closes)) =
     more (record { state = f; offset = suc s.offset; start = s.start; size = s.size; opened = suc s.offset; raw = []; cells = closing_raw closes s })
-scan_step s b left more (To f (Ends closes)) = completes s (closing_raw closes s) f (suc s.offset) left
+scan_step s b left more (Ok (f, Ends closes)) = completes s (closing_raw closes s) f (suc s.offset) left
 
 -- scanning, with a file's limit of `limit` bytes (§7.1 §7.2 §7.6)
 unfoldable pub scan : Dialect → (limit : ℕ) → Scan → Bytes → ScanResult
@@ -249,11 +249,11 @@ PartMoved =
 pub record CompleteLaws (d : Dialect) (target : Option Target) (done : List Rec) (s : Scan) (cs : List RawCell) (f : FileState)
     (next : ℕ) (left : Bytes) : Type 0 where
   pub sound :
-      record_fault d target done (map (value_of d) cs) ≡ Sound →
+      record_fault d target done (map (value_of d) cs) ≡ Ok tt →
       resume d target done (completes s cs f next left)
       ≡ read_from d target (going (read_of d (done ++ (record { start = s.start; size = s.size; cells = map (value_of d) cs } ∷ [])) (scan_between f next))) left
   pub faulty :
-      (e : Fault) → record_fault d target done (map (value_of d) cs) ≡ Faulty e →
+      (e : Fault) → record_fault d target done (map (value_of d) cs) ≡ Err e →
       resume d target done (completes s cs f next left) ≡ stopped e (read_of d done s)
 
 -- what becomes of a complete record, for every dialect, target and record (§7.8)

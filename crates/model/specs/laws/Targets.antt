@@ -1,8 +1,8 @@
 -- Reading with a target is reading without one, and then fault 9: a converter may scan first and check the target afterwards, record
 -- by record. Proved in proofs/TargetLaws.antt.
 use Rattle.std.specs.Prelude.{ℕ, suc, ◌≡◌, List, [], ◌∷◌, ◌++◌, length}
-use Rattle.std.proofs.Math.Option.{none, some}
-use Rattle.model.specs.rules.Types.{Report, Dialect, Target, Fault, Sound, Faulty}
+use Rattle.std.specs.Prelude.{None, Some}
+use Rattle.model.specs.rules.Types.{Report, Dialect, Target, Fault, Ok, Err}
 use Rattle.model.specs.rules.Base.{Bytes}
 use Rattle.model.specs.rules.Text.{Value}
 use Rattle.model.specs.rules.Report.{report, number_of, column_of}
@@ -15,7 +15,7 @@ use Rattle.model.specs.rules.Records.{records_of, report_of}
 abbrev pub RecordTarget : Type 0
 RecordTarget =
     (d : Dialect) (t : Target) (done : List Rec) (vs : List Value) →
-    record_fault d (some t) done vs ≡ (record_fault d none done vs or_else target_next t (rows done) vs)
+    record_fault d (Some t) done vs ≡ (record_fault d None done vs or_else target_next t (rows done) vs)
 
 -- ---- the records of a file
 
@@ -23,14 +23,14 @@ RecordTarget =
 pub data Passes (t : Target) : (done added : List Rec) → Type 0 where
   passes_none : {done : List Rec} → Passes t done []
   passes_more :
-      {done : List Rec} {x : Rec} {xs : List Rec} → target_next t (rows done) x.cells ≡ Sound → Passes t (done ++ (x ∷ [])) xs →
+      {done : List Rec} {x : Rec} {xs : List Rec} → target_next t (rows done) x.cells ≡ Ok tt → Passes t (done ++ (x ∷ [])) xs →
       Passes t done (x ∷ xs)
 
 -- the first record that it can't represent comes after `kept` and starts there (§8.7)
 pub data Refuses (t : Target) (e : Fault) (kept : List Rec) (start : ℕ) : (done added : List Rec) → Type 0 where
-  refuses_here : {x : Rec} {xs : List Rec} → target_next t (rows kept) x.cells ≡ Faulty e → x.start ≡ start → Refuses t e kept start kept (x ∷ xs)
+  refuses_here : {x : Rec} {xs : List Rec} → target_next t (rows kept) x.cells ≡ Err e → x.start ≡ start → Refuses t e kept start kept (x ∷ xs)
   refuses_later :
-      {done : List Rec} {x : Rec} {xs : List Rec} → target_next t (rows done) x.cells ≡ Sound → Refuses t e kept start (done ++ (x ∷ [])) xs →
+      {done : List Rec} {x : Rec} {xs : List Rec} → target_next t (rows done) x.cells ≡ Ok tt → Refuses t e kept start (done ++ (x ∷ [])) xs →
       Refuses t e kept start done (x ∷ xs)
 
 -- the results of reading without a target and with one, after `done` was read: the same, or fault 9 with the target (§8.7 §12.2)
@@ -42,11 +42,11 @@ pub data WithTarget (t : Target) (done : List Rec) : (without with : Progress) �
 
 -- reading on with a target, from any place, and without one (§8.7 §12.2)
 abbrev pub TargetReads : Type 0
-TargetReads = (d : Dialect) (t : Target) (r : Read) (bs : Bytes) → WithTarget t r.done (read_from d none (going r) bs) (read_from d (some t) (going r) bs)
+TargetReads = (d : Dialect) (t : Target) (r : Read) (bs : Bytes) → WithTarget t r.done (read_from d None (going r) bs) (read_from d (Some t) (going r) bs)
 
 -- reading a whole file with a target, and without one (§8.7 §12.2)
 abbrev pub TargetFile : Type 0
-TargetFile = (d : Dialect) (t : Target) (bs : Bytes) → WithTarget t [] (read_file d none bs) (read_file d (some t) bs)
+TargetFile = (d : Dialect) (t : Target) (bs : Bytes) → WithTarget t [] (read_file d None bs) (read_file d (Some t) bs)
 
 -- ---- the same as a function
 
@@ -64,12 +64,12 @@ unfoldable pub targeted : Target → (done added : List Rec) → (end : Report) 
 targeted t done [] end = record { report = end; records = done }
 targeted t done (x ∷ xs) end =
     elim (target_next t (rows done) x.cells) [
-      | Sound ↦ targeted t (done ++ (x ∷ [])) xs end
-      | Faulty e ↦ record { report = report (number_of e) (suc (length done)) (column_of e) x.start; records = done }
+      | (Ok tt) ↦ targeted t (done ++ (x ∷ [])) xs end
+      | Err e ↦ record { report = report (number_of e) (suc (length done)) (column_of e) x.start; records = done }
     ]
 
 -- a converter's outcome is the reader's, with the target checked record by record (§8.7 §12.2)
 abbrev pub TargetOutcome : Type 0
 TargetOutcome =
     (d : Dialect) (t : Target) (bs : Bytes) →
-    outcome_of (read_file d (some t) bs) ≡ targeted t [] (records_of (read_file d none bs)) (report_of (read_file d none bs))
+    outcome_of (read_file d (Some t) bs) ≡ targeted t [] (records_of (read_file d None bs)) (report_of (read_file d None bs))

@@ -1,9 +1,8 @@
 -- The reader, the decoder, the whole converter and the writer. Each takes dialect numbers and defines the report and the content of
 -- every lent list or buffer afterwards.
-use Rattle.std.specs.Prelude.{ℕ, zero, suc, ◌-◌, ◌*◌, Bool, true, false, ◌&&◌, List, [], ◌∷◌, ◌++◌, map, length, take, drop, leb, ltb, eqb}
-use Rattle.std.proofs.Math.Option.{Option, none, some}
-use Rattle.model.specs.rules.Types.{Report, Kind, Text, Number, True, False, Null, Dialect, Csvj, Target, CheckResult, Sound, Faulty, CellCheck}
-use Rattle.model.specs.rules.Types.{WholeCell, Unsound}
+use Rattle.std.specs.Prelude.{min, ℕ, zero, suc, ◌-◌, ◌*◌, Bool, true, false, ◌&&◌, List, [], ◌∷◌, ◌++◌, map, length, take, drop, leb, ltb, eqb}
+use Rattle.std.specs.Prelude.{Option, None, Some}
+use Rattle.model.specs.rules.Types.{Report, Kind, Text, Number, True, False, Null, Dialect, Csvj, Target, CheckResult, Ok, Err, CellCheck}
 use Rattle.model.specs.rules.Base.{choose◌then◌else◌, ◌is◌, Bytes, is_empty, concat, over}
 use Rattle.model.specs.rules.Dialect.{dialect_of, into}
 use Rattle.model.specs.rules.Utf8.{is_content}
@@ -11,6 +10,7 @@ use Rattle.model.specs.rules.Decode.{kind_number, kind_of, content_of, validate_
 use Rattle.model.specs.rules.Text.{Value, table_text}
 use Rattle.model.specs.rules.Report.{report, accepted, refusal, number_of, column_of}
 use Rattle.model.specs.rules.Records.{Rec, rows, ◌or_else◌, Progress, going, stopped, read_file, fault_report, header_fault, target_next}
+use Rattle.model.specs.rules.Types.{cell_fault}
 
 -- ---- the reader
 
@@ -40,11 +40,7 @@ read_answer (going r) room = answered r.done (concat (rows r.done)) room
 
 -- the reader, with its cells in place of the lists. `room`: how many places the shortest list has (§1.7 §9.1 §10.1)
 unfoldable pub reader : (dialect : ℕ) → Bytes → (room : ℕ) → Answer
-reader n bs room = elim (dialect_of n) [ none ↦ no_answer (refusal 11) | some d ↦ read_answer (read_file d none bs) room ]
-
--- the smaller of two lengths, for the shortest list (§10.5)
-abbrev pub least : ℕ → ℕ → ℕ
-least a b = choose leb a b then a else b
+reader n bs room = elim (dialect_of n) [ None ↦ no_answer (refusal 11) | Some d ↦ read_answer (read_file d None bs) room ]
 
 -- what the list of starts is filled with (§10.2)
 abbrev pub starts_of : List Value → List ℕ
@@ -72,7 +68,7 @@ pub record ReadCall : Type 0 where
 -- (§9.3 §9.4 §10.2)
 unfoldable pub read_call : (dialect : ℕ) → Bytes → (starts ends kinds : List ℕ) → ReadCall
 read_call n bs starts ends kinds =
-    let a : Answer = reader n bs (least (length starts) (least (length ends) (length kinds))) in
+    let a : Answer = reader n bs (min (length starts) (min (length ends) (length kinds))) in
     record {
       report = a.report;
       columns = a.columns;
@@ -98,14 +94,14 @@ not_decoded e = record { report = e; kind = 0; content = [] }
 -- the answer on a cell that was checked: its fault with record and column 0, or 10 for too little room, or its kind and content
 -- (§11.2 §11.6)
 abbrev pub decoded_as : Dialect → Bytes → (room : ℕ) → CellCheck → Decoded
-decoded_as d bs room (Unsound e o) = not_decoded (report (number_of e) 0 0 o)
-decoded_as d bs room WholeCell =
+decoded_as d bs room (Err u) = not_decoded (report (number_of u.fault) 0 0 u.offset)
+decoded_as d bs room (Ok _) =
     choose ltb room (length (content_of d bs)) then not_decoded (refusal 10)
     else record { report = accepted; kind = kind_number (kind_of d bs); content = content_of d bs }
 
 -- the decoder: 11 first, then the check of the raw cell (§1.7 §9.1 §11.1)
 unfoldable pub decoder : (dialect : ℕ) → Bytes → (room : ℕ) → Decoded
-decoder n bs room = elim (dialect_of n) [ none ↦ not_decoded (refusal 11) | some d ↦ decoded_as d bs room (validate_cell d bs) ]
+decoder n bs room = elim (dialect_of n) [ None ↦ not_decoded (refusal 11) | Some d ↦ decoded_as d bs room (validate_cell d bs) ]
 
 -- the lent room after the call: the content, and then what was there before (§9.3 §9.4 §11.1)
 unfoldable pub decoder_leaves : (dialect : ℕ) → Bytes → (room : List ℕ) → List ℕ
@@ -135,10 +131,10 @@ converted_as t room (going r) = fitted room (table_text t (rows r.done))
 unfoldable pub converter : (source target : ℕ) → Bytes → (room : ℕ) → Written
 converter m n bs room =
     elim (dialect_of m) [
-      | none ↦ unwritten (refusal 11)
-      | some d ↦ elim (dialect_of n) [
-        | none ↦ unwritten (refusal 11)
-        | some t ↦ converted_as (into t) room (read_file d (some (into t)) bs)
+      | None ↦ unwritten (refusal 11)
+      | Some d ↦ elim (dialect_of n) [
+        | None ↦ unwritten (refusal 11)
+        | Some t ↦ converted_as (into t) room (read_file d (Some (into t)) bs)
       ]
     ]
 
@@ -160,18 +156,18 @@ pub record Table : Type 0 where
 -- the kind of a number, or none (§2.3 §13.6)
 unfoldable pub kind_named : ℕ → Option Kind
 kind_named n =
-    choose n is 1 then some Text
-    else choose n is 2 then some Number
-    else choose n is 3 then some True
-    else choose n is 4 then some False
-    else choose n is 5 then some Null
-    else none
+    choose n is 1 then Some Text
+    else choose n is 2 then Some Number
+    else choose n is 3 then Some True
+    else choose n is 4 then Some False
+    else choose n is 5 then Some Null
+    else None
 
 -- the kind and the check of bytes, as a cell of CSVJ, are those of a number (§13.7)
 abbrev pub is_number : Kind → CellCheck → Bool
 is_number Text j = false
-is_number Number WholeCell = true
-is_number Number (Unsound e o) = false
+is_number Number (Ok _) = true
+is_number Number (Err u) = false
 is_number True j = false
 is_number False j = false
 is_number Null j = false
@@ -192,25 +188,25 @@ slice bs s e = take (e - s) (drop s bs)
 unfoldable pub table_cell : (content : Bytes) (from upto kind : ℕ) → Option Value
 table_cell bs s e n =
     elim (kind_named n) [
-      | none ↦ none
-      | some k ↦
-          choose leb s e && leb e (length bs) && is_value k (slice bs s e) then some (record { from = s; upto = e; kind = k; content = slice bs s e })
-          else none
+      | None ↦ None
+      | Some k ↦
+          choose leb s e && leb e (length bs) && is_value k (slice bs s e) then Some (record { from = s; upto = e; kind = k; content = slice bs s e })
+          else None
     ]
 
 -- one cell more, or none where it or another is none: one unsound cell makes the table none (§13.2)
 abbrev pub cons : Option Value → Option (List Value) → Option (List Value)
-cons none vs = none
-cons (some v) none = none
-cons (some v) (some vs) = some (v ∷ vs)
+cons None vs = None
+cons (Some v) None = None
+cons (Some v) (Some vs) = Some (v ∷ vs)
 
 -- the cells of a table, or none where one of them is none or the lists differ in length (§13.2 §13.3)
 unfoldable pub table_cells : (content : Bytes) (starts ends kinds : List ℕ) → Option (List Value)
-table_cells bs [] [] [] = some []
-table_cells bs [] [] (k ∷ ks) = none
-table_cells bs [] (e ∷ es) ks = none
-table_cells bs (s ∷ ss) [] ks = none
-table_cells bs (s ∷ ss) (e ∷ es) [] = none
+table_cells bs [] [] [] = Some []
+table_cells bs [] [] (k ∷ ks) = None
+table_cells bs [] (e ∷ es) ks = None
+table_cells bs (s ∷ ss) [] ks = None
+table_cells bs (s ∷ ss) (e ∷ es) [] = None
 table_cells bs (s ∷ ss) (e ∷ es) (k ∷ ks) = cons (table_cell bs s e k) (table_cells bs ss es ks)
 
 -- cells as rows: this number of records, each of this number of columns (§13.1)
@@ -220,9 +216,9 @@ rows_of (suc n) columns vs = take columns vs ∷ rows_of n columns (drop columns
 
 -- the records of a table, given its cells: none where their number is not columns times records, or there is no record (§13.9 §13.10)
 abbrev pub table_rows : (columns records : ℕ) → Option (List Value) → Option (List (List Value))
-table_rows columns records none = none
-table_rows columns records (some vs) =
-    choose eqb (length vs) (columns * records) && ltb 0 records then some (rows_of records columns vs) else none
+table_rows columns records None = None
+table_rows columns records (Some vs) =
+    choose eqb (length vs) (columns * records) && ltb 0 records then Some (rows_of records columns vs) else None
 
 -- the records of a table, or none where what was given is no table, which is 12 (§6.12 §13.2)
 unfoldable pub rows_in : Table → Option (List (List Value))
@@ -230,8 +226,8 @@ rows_in t = table_rows t.columns t.records (table_cells t.content t.starts t.end
 
 -- the fault of record n, with offset 0, or what follows it if it has none (§13.11)
 abbrev pub or_next : (n : ℕ) → CheckResult → Option Report → Option Report
-or_next n Sound next = next
-or_next n (Faulty e) next = some (report (number_of e) n (column_of e) 0)
+or_next n (Ok _) next = next
+or_next n (Err e) next = Some (report (number_of e) n (column_of e) 0)
 
 -- the fault of the row that follows the rows `done`. 8, 7 and 6 are the header's, since all rows have its count of cells; names
 -- go by the target's rule, so what would clash there is 6 (§13.11 §13.12)
@@ -241,7 +237,7 @@ row_fault t (h ∷ rs) r = target_next t (h ∷ rs) r
 
 -- the first fault of the rows that follow `done` (§13.11)
 unfoldable pub rows_from : Target → (done : List (List Value)) → List (List Value) → Option Report
-rows_from t done [] = none
+rows_from t done [] = None
 rows_from t done (r ∷ rs) =
     let next : Option Report = rows_from t (done ++ (r ∷ [])) rs in
     or_next (suc (length done)) (row_fault t done r) next
@@ -252,15 +248,15 @@ rows_fault t rs = rows_from t [] rs
 
 -- the fault, or the text if it has room (§13.13)
 abbrev pub written_rows : Target → (room : ℕ) → List (List Value) → Option Report → Written
-written_rows t room rs (some e) = unwritten e
-written_rows t room rs none = fitted room (table_text t rs)
+written_rows t room rs (Some e) = unwritten e
+written_rows t room rs None = fitted room (table_text t rs)
 
 -- the writer: 11, then 12, then the records' faults, then 10 (§1.7 §9.1 §13.1 §13.2 §13.11)
 unfoldable pub writer : (target : ℕ) → Table → (room : ℕ) → Written
 writer n table room =
     elim (dialect_of n) [
-      | none ↦ unwritten (refusal 11)
-      | some t ↦ elim (rows_in table) [ none ↦ unwritten (refusal 12) | some rs ↦ written_rows (into t) room rs (rows_fault (into t) rs) ]
+      | None ↦ unwritten (refusal 11)
+      | Some t ↦ elim (rows_in table) [ None ↦ unwritten (refusal 12) | Some rs ↦ written_rows (into t) room rs (rows_fault (into t) rs) ]
     ]
 
 -- the lent output after the call: the text, and then what was there before (§9.3 §9.4 §13.1)

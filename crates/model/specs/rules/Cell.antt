@@ -1,7 +1,7 @@
 -- One cell, a byte at a time, in each dialect. A record is cells with delimiters between them (File), and the decoder runs this
 -- automaton alone (Decode).
 use Rattle.std.specs.Prelude.{ℕ, ◌≡◌, Bool, true, false, ◌||◌, [], ◌∷◌, ltb}
-use Rattle.model.specs.rules.Types.{Dialect, Csvj, Tdif, CsvPlus, Char, Whole, Within, Advance, On, Broken}
+use Rattle.model.specs.rules.Types.{Dialect, Csvj, Tdif, CsvPlus, Char, Whole, Within, Option, Some, None}
 use Rattle.model.specs.rules.Types.{HexLeft, Four, Three, Two, One, Numeral, Minus, Zero, Integer, Point, Fraction, E, ESign, Exponent}
 use Rattle.model.specs.rules.Types.{Word, T, Tr, Tru, F, Fa, Fal, Fals, N, Nu, Nul, Backslash}
 use Rattle.model.specs.rules.Types.{Cell, Fresh, Quoted, Closed, Escape, Hex, InNumber, InWord, Plain, Complete, CellStep, More, Stop, Refuse}
@@ -11,9 +11,9 @@ use Rattle.model.specs.rules.Dialect.{quote_of, delimiter_of}
 use Rattle.model.specs.rules.Utf8.{char_step}
 
 -- a byte of text, which is fault 2 where it breaks the table (§6.2)
-abbrev pub text_byte : (Char → Cell) → Advance → CellStep
-text_byte f Broken = Refuse Encoding
-text_byte f (On c) = More (f c)
+abbrev pub text_byte : (Char → Cell) → Option Char → CellStep
+text_byte f None = Refuse Encoding
+text_byte f (Some c) = More (f c)
 
 -- ---- values of RFC 8259 in CSVJ, and \N of TDIF
 

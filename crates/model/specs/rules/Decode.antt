@@ -1,11 +1,12 @@
 -- The kind and the content of a raw cell, and whether raw bytes are a single cell.
 use Rattle.std.specs.Prelude.{ℕ, suc, ◌+◌, ◌-◌, ◌*◌, Bool, true, false, ◌&&◌, ◌||◌, List, [], ◌∷◌, ◌++◌, leb}
 use Rattle.model.specs.rules.Types.{Kind, Text, Number, True, False, Null, Dialect, Csvj, Tdif, CsvPlus, HexLeft, Four, Three, Two, One}
-use Rattle.model.specs.rules.Types.{Cell, Fresh, More, Stop, Refuse, Syntax, Byte, CutShort, CellCheck, WholeCell, Unsound}
+use Rattle.model.specs.rules.Types.{Cell, Fresh, More, Stop, Refuse, Syntax, Byte, CutShort, CellCheck, Ok, Err}
 use Rattle.model.specs.rules.Base.{choose◌then◌else◌, ◌is◌, Bytes, QUOTE, BACKSLASH, begins}
 use Rattle.model.specs.rules.Dialect.{quote_of}
 use Rattle.model.specs.rules.Utf8.{pack, is_high, is_low, joined}
 use Rattle.model.specs.rules.Cell.{cell_step, is_whole, is_digit}
+use Rattle.model.specs.rules.Types.{cell_fault}
 
 -- ---- kinds
 
@@ -107,12 +108,12 @@ content_of (CsvPlus s) (b ∷ bs) =
 -- whether raw bytes, from here on, end a single cell: fault 2 or 3 at a byte, 3 also where the cell has ended before the
 -- byte, or 4 where the bytes end too early (§11.2 §11.3 §11.4 §11.5)
 unfoldable pub validate_from : Dialect → Cell → (offset : ℕ) → Bytes → CellCheck
-validate_from d c i [] = choose is_whole d c then WholeCell else Unsound CutShort i
+validate_from d c i [] = choose is_whole d c then Ok tt else Err (cell_fault CutShort i)
 validate_from d c i (b ∷ bs) =
     elim (cell_step d c b) [
       | More c' ↦ validate_from d c' (suc i) bs
-      | Stop ↦ Unsound (Byte Syntax) i
-      | Refuse e ↦ Unsound (Byte e) i
+      | Stop ↦ Err (cell_fault (Byte Syntax) i)
+      | Refuse e ↦ Err (cell_fault (Byte e) i)
     ]
 
 -- whether raw bytes are a single cell, whatever their length and whatever they begin with (§11.1 §11.7)

@@ -1,6 +1,6 @@
 -- Dialects by number, and the characters that each separates and quotes cells with.
 use Rattle.std.specs.Prelude.{ℕ, Bool, true, false}
-use Rattle.std.proofs.Math.Option.{Option, none, some}
+use Rattle.std.specs.Prelude.{Option, None, Some}
 use Rattle.model.specs.rules.Types.{Delimiter, Comma, Semicolon, Tab, Bar, Quote, Double, Single, Settings, Dialect, Csvj, Tdif, CsvPlus, Target}
 use Rattle.model.specs.rules.Base.{choose◌then◌else◌, ◌is◌, COMMA, QUOTE}
 
@@ -23,10 +23,10 @@ standard = record { delimiter = Comma; quote = Double }
 -- the dialect of a number, or none if the number is unknown; nothing else selects a dialect (§1.1 §1.2 §1.3 §1.4 §1.8)
 unfoldable pub dialect_of : ℕ → Option Dialect
 dialect_of n =
-    choose n is 1 then some Csvj
-    else choose n is 2 then some Tdif
-    else choose n is 3 then some (CsvPlus standard)
-    else none
+    choose n is 1 then Some Csvj
+    else choose n is 2 then Some Tdif
+    else choose n is 3 then Some (CsvPlus standard)
+    else None
 
 -- the target that a dialect's number in a call denotes (§1.1 §12.1)
 abbrev pub into : Dialect → Target

@@ -1,6 +1,6 @@
 -- The ledger of piece and end calls: the answer to each call of a list, by the calls before it and their own reports.
 use Rattle.std.specs.Prelude.{ℕ, Bool, true, false, ◌&&◌, ◌||◌, List, [], ◌∷◌, ◌++◌, map, length, drop, ltb}
-use Rattle.std.proofs.Math.Option.{Option, none, some}
+use Rattle.std.specs.Prelude.{Option, None, Some}
 use Rattle.model.specs.rules.Types.{Report, Dialect, Target}
 use Rattle.model.specs.rules.Base.{choose◌then◌else◌, ◌is◌, within, Bytes, over}
 use Rattle.model.specs.rules.Dialect.{dialect_of, into}
@@ -46,8 +46,8 @@ is_file_fault e = within 1 9 e.number
 
 -- the file fault that an earlier call reported (§15.5)
 unfoldable pub fault_in : List Entry → Option Report
-fault_in [] = none
-fault_in (x ∷ xs) = choose is_file_fault x.answer.report then some x.answer.report else fault_in xs
+fault_in [] = None
+fault_in (x ∷ xs) = choose is_file_fault x.answer.report then Some x.answer.report else fault_in xs
 
 -- an earlier end call was accepted (§15.6)
 unfoldable pub ended_in : List Entry → Bool
@@ -83,8 +83,8 @@ too_small c = ltb MAXPIECE (length (bytes_of c)) || ltb (room_of c) LEASTOUTPUT
 -- the file as far as this call shows it: the bytes consumed, for a piece without the file's end, for an end call with it
 -- (§16.5 §16.6)
 abbrev pub seen_by : Dialect → Target → Call → Bytes → Progress
-seen_by d t (piece bs room) consumed = read_bytes d (some t) consumed
-seen_by d t (finish room) consumed = read_file d (some t) consumed
+seen_by d t (piece bs room) consumed = read_bytes d (Some t) consumed
+seen_by d t (finish room) consumed = read_file d (Some t) consumed
 
 -- the answer of a call that is not refused by the checks: the report on what was read, and the text of the records completed
 -- before any fault, less what was written before (§9.5 §16.5 §16.6 §16.7 §16.8)
@@ -96,8 +96,8 @@ taken t written p = record { report = report_of p; text = drop (length written) 
 unfoldable pub answer_to : Dialect → Target → (past : List Entry) → Call → Written
 answer_to d t past c =
     elim (fault_in past) [
-      | some e ↦ unwritten e
-      | none ↦
+      | Some e ↦ unwritten e
+      | None ↦
           choose ended_in past then unwritten (refusal 11)
           else choose too_small c then unwritten (refusal 10)
           else taken t (written_in past) (seen_by d t c (consumed_in past ++ bytes_of c))
@@ -109,18 +109,18 @@ answer_to d t past c =
 unfoldable pub answer_now : (source target : ℕ) → (past : List Entry) → Call → Written
 answer_now m n past c =
     elim (dialect_of m) [
-      | none ↦ unwritten (refusal 11)
-      | some d ↦ elim (dialect_of n) [ none ↦ unwritten (refusal 11) | some t ↦ answer_to d (into t) past c ]
+      | None ↦ unwritten (refusal 11)
+      | Some d ↦ elim (dialect_of n) [ None ↦ unwritten (refusal 11) | Some t ↦ answer_to d (into t) past c ]
     ]
 
 -- one of the four checks refuses this call after these entries: it consumes and changes nothing (§15.4 §15.5 §15.6 §15.7 §15.8)
 unfoldable pub checked : (source target : ℕ) → (past : List Entry) → Call → Bool
 checked m n past c =
     elim (dialect_of m) [
-      | none ↦ true
-      | some d ↦ elim (dialect_of n) [
-        | none ↦ true
-        | some t ↦ elim (fault_in past) [ some e ↦ true | none ↦ ended_in past || too_small c ]
+      | None ↦ true
+      | Some d ↦ elim (dialect_of n) [
+        | None ↦ true
+        | Some t ↦ elim (fault_in past) [ Some e ↦ true | None ↦ ended_in past || too_small c ]
       ]
     ]
 

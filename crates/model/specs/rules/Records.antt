@@ -1,11 +1,10 @@
 -- The checks of a complete record, and reading, over any dialect: offsets, record numbers, limits, spans.
 use Rattle.std.specs.Prelude.{ℕ, suc, ◌+◌, Bool, true, false, not, ◌&&◌, List, [], ◌∷◌, ◌++◌, map, length, leb, ltb, eqb}
-use Rattle.std.proofs.Math.Option.{Option, none, some}
+use Rattle.std.specs.Prelude.{Option, None, Some}
 use Rattle.model.specs.rules.Types.{Report, Kind, Text, Number, True, False, Null, Dialect, Csvj, Tdif, CsvPlus, Target}
-use Rattle.model.specs.rules.Types.{FileState, Top, Begin, Outside, Passed, OfCell, Between, Tail, Ends, Step, To, Reject, Ending, Clean, Final, Cut}
+use Rattle.model.specs.rules.Types.{FileState, Top, Begin, Outside, Passed, OfCell, Between, Tail, Ends, Step, Ok, Err, Ending, Clean, Final, Cut}
 use Rattle.model.specs.rules.Types.{Fault, NoRecord, Byte, CutShort, CellCount, RepeatedName, HeaderKind, FileTooLong, RecordTooLong}
-use Rattle.model.specs.rules.Types.{TooManyColumns, NoCells, LacksKind, LoneSurrogate, Clash, TextTooLong, OutputTooLong, CheckResult, Sound}
-use Rattle.model.specs.rules.Types.{Faulty}
+use Rattle.model.specs.rules.Types.{TooManyColumns, NoCells, LacksKind, LoneSurrogate, Clash, TextTooLong, OutputTooLong, CheckResult}
 use Rattle.model.specs.rules.Base.{choose◌then◌else◌, within, Bytes, same, is_empty}
 use Rattle.model.specs.rules.Dialect.{is_csvj}
 use Rattle.model.specs.rules.Utf8.{holds_lone}
@@ -30,13 +29,13 @@ rows (r ∷ rs) = r.cells ∷ rows rs
 -- two checks in this order: the fault of the first that has one (§7.8 §8.1)
 infixr 20 ◌or_else◌
 unfoldable pub ◌or_else◌ : CheckResult → CheckResult → CheckResult
-Sound or_else y = y
-Faulty e or_else y = Faulty e
+Ok tt or_else y = y
+Err e or_else y = Err e
 
 -- one check: this fault exactly when the test holds (§7.8 §8.1)
 unfoldable pub when : Bool → Fault → CheckResult
-when true e = Faulty e
-when false e = Sound
+when true e = Err e
+when false e = Ok tt
 
 -- ---- names
 
@@ -58,10 +57,10 @@ among x (y ∷ ys) = choose same x y then true else among x ys
 
 -- the first name, from column n on, that repeats an earlier one; `seen` holds the keys of the earlier ones (§6.6 §7.10)
 unfoldable pub repeat_from : Dialect → (ℕ → Fault) → (seen : List Bytes) (n : ℕ) → List Value → CheckResult
-repeat_from d fault seen n [] = Sound
+repeat_from d fault seen n [] = Ok tt
 repeat_from d fault seen n (v ∷ vs) =
     let key : Bytes = name_key d v.content in
-    choose among key seen then Faulty (fault n) else repeat_from d fault (key ∷ seen) (suc n) vs
+    choose among key seen then Err (fault n) else repeat_from d fault (key ∷ seen) (suc n) vs
 
 -- the first header name that repeats an earlier one, by the dialect's rule for names (§6.6 §8.4)
 unfoldable pub repeat_fault : Dialect → (ℕ → Fault) → List Value → CheckResult
@@ -71,7 +70,7 @@ repeat_fault d fault vs = repeat_from d fault [] 1 vs
 
 -- the first header cell, from column n on, that is not text (§3.10 §4.9 §6.7)
 unfoldable pub header_kind_from : ℕ → List Value → CheckResult
-header_kind_from n [] = Sound
+header_kind_from n [] = Ok tt
 header_kind_from n (v ∷ vs) = when (not (is_text v.kind)) (HeaderKind n) or_else header_kind_from (suc n) vs
 
 -- the checks of a header: 8 for columns, 7 for all its cells, 6 (§6.6 §6.7 §6.13 §7.3 §7.8 §7.10)
@@ -105,7 +104,7 @@ loses_surrogate t v = not (is_csvj t) && is_text v.kind && holds_lone v.content
 
 -- the first cell, from column n on, that the target can't represent, by its kind or by a lone surrogate (§8.3)
 unfoldable pub uncarried_from : Dialect → (n : ℕ) → List Value → CheckResult
-uncarried_from t n [] = Sound
+uncarried_from t n [] = Ok tt
 uncarried_from t n (v ∷ vs) =
     when (not (has_kind t v.kind)) (LacksKind n)
     or_else when (loses_surrogate t v) (LoneSurrogate n)
@@ -114,7 +113,7 @@ uncarried_from t n (v ∷ vs) =
 -- the first header name that repeats an earlier one by the target's rule (§8.4)
 abbrev pub clash_fault : Dialect → (header : Bool) → List Value → CheckResult
 clash_fault t true vs = repeat_fault t Clash vs
-clash_fault t false vs = Sound
+clash_fault t false vs = Ok tt
 
 -- fault 9 of a record, reason by reason, after `written` bytes of output (§6.9 §8.1 §8.2 §8.3 §8.4 §8.5 §8.6)
 unfoldable pub target_fault : Target → (header : Bool) → (written : ℕ) → List Value → CheckResult
@@ -132,8 +131,8 @@ target_next t done vs = target_fault t (is_empty done) (length (table_text t don
 
 -- a check that is made only where there is a target (§7.8 §12.2)
 abbrev pub converting : Option Target → (Target → CheckResult) → CheckResult
-converting none f = Sound
-converting (some t) f = f t
+converting None f = Ok tt
+converting (Some t) f = f t
 
 -- the fault of the record that follows `done`: the checks of its source, read in d, and then those of its target if there is one
 -- (§7.8 §8.7)
@@ -182,8 +181,8 @@ closing d false r = r.cells
 
 -- a faulty record stops reading where it is still the one being read (§6.18)
 abbrev pub validated : Read → Read → CheckResult → Progress
-validated before next Sound = going next
-validated before next (Faulty e) = stopped e before
+validated before next (Ok _) = going next
+validated before next (Err e) = stopped e before
 
 -- a record ends and is checked: the current record, with these cells, the state of the file after it, and the next offset (§7.5 §7.8)
 unfoldable pub complete : Dialect → (target : Option Target) → Read → List Value → FileState → ℕ → Progress
@@ -194,11 +193,11 @@ complete d target r vs f o =
 -- what the byte b, which does this to the form, does to what has been read: which bytes are counted, where a record starts,
 -- where a cell begins and ends (§6.20 §7.4 §10.3)
 unfoldable pub move : Dialect → (target : Option Target) → Read → ℕ → Step → Progress
-move d target r b (Reject e) = stopped (Byte e) r
-move d target r b (To f Outside) =
+move d target r b (Err e) = stopped (Byte e) r
+move d target r b (Ok (f, Outside)) =
     going (record { done = r.done; state = f; offset = suc r.offset; start = r.start; size = 0; opened = suc r.offset; raw = []; cells = [] })
-move d target r b (To f Passed) = going (between_records r.done f (suc r.offset))
-move d target r b (To f OfCell) =
+move d target r b (Ok (f, Passed)) = going (between_records r.done f (suc r.offset))
+move d target r b (Ok (f, OfCell)) =
     going (record {
       done = r.done;
       state = f;
@@ -209,7 +208,7 @@ move d target r b (To f OfCell) =
       raw = r.raw ++ (b ∷ []);
       cells = r.cells;
     })
-move d target r b (To f (Between closes)) =
+move d target r b (Ok (f, Between closes)) =
     going (record {
       done = r.done;
       state = f;
@@ -220,7 +219,7 @@ move d target r b (To f (Between closes)) =
       raw = [];
       cells = closing d closes r;
     })
-move d target r b (To f (Tail closes)) =
+move d target r b (Ok (f, Tail closes)) =
     going (record {
       done = r.done;
       state = f;
@@ -231,7 +230,7 @@ move d target r b (To f (Tail closes)) =
       raw = [];
       cells = closing d closes r;
     })
-move d target r b (To f (Ends closes)) = complete d target r (closing d closes r) f (suc r.offset)
+move d target r b (Ok (f, Ends closes)) = complete d target r (closing d closes r) f (suc r.offset)
 
 -- the file has all the bytes that it may have, and the next is one too many (§6.8 §7.1 §7.7)
 unfoldable pub file_full : Read → Bool

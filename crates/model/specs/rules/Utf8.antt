@@ -1,9 +1,9 @@
 -- UTF-8 text by the rules' table of first and second bytes, a byte at a time; code points; and content, which is UTF-8 widened
 -- by lone surrogates.
 use Rattle.std.specs.Prelude.{ℕ, ◌+◌, ◌-◌, ◌*◌, ◌/◌, ◌%◌, Bool, true, false, ◌&&◌, List, [], ◌∷◌, ◌++◌, leb}
-use Rattle.std.proofs.Math.Option.{Option, none, some}
+use Rattle.std.specs.Prelude.{Option, None, Some}
 use Rattle.model.specs.rules.Types.{Lead, C2ToDf, E0, E1ToEc, Ed, EeToEf, F0, F1ToF3, F4, Inner, Second, LastTwo, Last, Char, Whole, Within}
-use Rattle.model.specs.rules.Types.{Advance, On, Broken}
+use Rattle.std.specs.Prelude.{Option}
 use Rattle.model.specs.rules.Base.{choose◌then◌else◌, ◌is◌, within, Bytes}
 
 -- ---- the table
@@ -37,30 +37,30 @@ unfoldable pub leads : List Lead
 leads = C2ToDf ∷ E0 ∷ E1ToEc ∷ Ed ∷ EeToEf ∷ F0 ∷ F1ToF3 ∷ F4 ∷ []
 
 -- the first byte of a character of more than one byte: its row, or none, which breaks the table (§2.11)
-unfoldable pub lead_byte : List Lead → ℕ → Advance
-lead_byte [] b = Broken
-lead_byte (l ∷ ls) b = choose within (row_of l).lo (row_of l).hi b then On (Within (Second l)) else lead_byte ls b
+unfoldable pub lead_byte : List Lead → ℕ → Option Char
+lead_byte [] b = None
+lead_byte (l ∷ ls) b = choose within (row_of l).lo (row_of l).hi b then Some (Within (Second l)) else lead_byte ls b
 
 -- after the second byte of a character of this length (§2.11)
 abbrev pub after_second : (size : ℕ) → Char
 after_second size = choose size is 2 then Whole else choose size is 3 then Within Last else Within LastTwo
 
 -- a character's second byte by its row, and its later bytes, which are 80 to BF (§2.11)
-unfoldable pub inner_step : Inner → ℕ → Advance
-inner_step (Second l) b = choose within (row_of l).lo2 (row_of l).hi2 b then On (after_second (row_of l).size) else Broken
-inner_step LastTwo b = choose within 0x80 0xBF b then On (Within Last) else Broken
-inner_step Last b = choose within 0x80 0xBF b then On Whole else Broken
+unfoldable pub inner_step : Inner → ℕ → Option Char
+inner_step (Second l) b = choose within (row_of l).lo2 (row_of l).hi2 b then Some (after_second (row_of l).size) else None
+inner_step LastTwo b = choose within 0x80 0xBF b then Some (Within Last) else None
+inner_step Last b = choose within 0x80 0xBF b then Some Whole else None
 
 -- the next byte of a text, by the table (§2.11)
-unfoldable pub char_step : Char → ℕ → Advance
-char_step Whole b = choose within 0x00 0x7F b then On Whole else lead_byte leads b
+unfoldable pub char_step : Char → ℕ → Option Char
+char_step Whole b = choose within 0x00 0x7F b then Some Whole else lead_byte leads b
 char_step (Within i) b = inner_step i b
 
 -- a text obeys the table from here to its end, and is not cut inside a character (§1.5 §2.11)
 unfoldable pub text_from : Char → Bytes → Bool
 text_from Whole [] = true
 text_from (Within i) [] = false
-text_from c (b ∷ bs) = elim (char_step c b) [ Broken ↦ false | On c' ↦ text_from c' bs ]
+text_from c (b ∷ bs) = elim (char_step c b) [ None ↦ false | Some c' ↦ text_from c' bs ]
 
 -- ---- code points
 
@@ -122,20 +122,20 @@ settled Whole = gap false
 settled (Within i) = inner i
 
 -- the same, or none where the byte breaks the table (§2.6 §2.11)
-abbrev pub settle : Advance → Option Wide
-settle Broken = none
-settle (On c) = some (settled c)
+abbrev pub settle : Option Char → Option Wide
+settle None = None
+settle (Some c) = Some (settled c)
 
 -- the next byte of content: of the table's text, or of a lone surrogate, which is not low directly after a high one (§2.6
 -- §2.9)
 unfoldable pub wide_step : Wide → ℕ → Option Wide
-wide_step (gap h) b = choose b is 0xED then some (ed h) else settle (char_step Whole b)
+wide_step (gap h) b = choose b is 0xED then Some (ed h) else settle (char_step Whole b)
 wide_step (ed h) b =
-    choose within 0x80 0x9F b then some (inner Last)
-    else choose within 0xA0 0xAF b then some (lone true)
-    else choose within 0xB0 0xBF b then (choose h then none else some (lone false))
-    else none
-wide_step (lone h) b = choose within 0x80 0xBF b then some (gap h) else none
+    choose within 0x80 0x9F b then Some (inner Last)
+    else choose within 0xA0 0xAF b then Some (lone true)
+    else choose within 0xB0 0xBF b then (choose h then None else Some (lone false))
+    else None
+wide_step (lone h) b = choose within 0x80 0xBF b then Some (gap h) else None
 wide_step (inner i) b = settle (char_step (Within i) b)
 
 -- bytes are content from here to their end, and are not cut inside a character or a surrogate (§2.6 §2.9)
@@ -144,7 +144,7 @@ wide_from (gap h) [] = true
 wide_from (ed h) [] = false
 wide_from (lone h) [] = false
 wide_from (inner i) [] = false
-wide_from w (b ∷ bs) = elim (wide_step w b) [ none ↦ false | some w' ↦ wide_from w' bs ]
+wide_from w (b ∷ bs) = elim (wide_step w b) [ None ↦ false | Some w' ↦ wide_from w' bs ]
 
 -- bytes have the form of content (§2.6 §2.9)
 unfoldable pub is_content : Bytes → Bool

@@ -21,30 +21,30 @@ unfolding fault_at
 returns-then-out-o c =
     let a = c.args in
     let text = text_at (into a.t) a.p (cells_in (File a.d) a.s.now a.starts.now a.ends.now a.kinds.now) in
-    let long : c.check_record-r.result.length ≡ length text = c.check_record-r.ensures.length_value c.in-Sound.is in
+    let long : c.check_record-r.result.length ≡ length text = c.check_record-r.ensures.length_value c.in-Ok.is in
     let o : a.o ≤ length a.out.now = c.requires.written_bound.1 in
     let less : length a.out.now - a.o < c.check_record-r.result.length = c.if-out-o.true in
-    has_no_room (sym c.check_record-r.ensures.verdict_value ∙ c.in-Sound.is) (omega arith) refl
+    has_no_room (sym c.check_record-r.ensures.verdict_value ∙ c.in-Ok.is) (omega arith) refl
 
 pub write_line-requires : goal.write_line-requires
 write_line-requires c =
     let a = c.args in
     let text = text_at (into a.t) a.p (cells_in (File a.d) a.s.now a.starts.now a.ends.now a.kinds.now) in
-    let long : c.check_record-r.result.length ≡ length text = c.check_record-r.ensures.length_value c.in-Sound.is in
+    let long : c.check_record-r.result.length ≡ length text = c.check_record-r.ensures.length_value c.in-Ok.is in
     let o : a.o ≤ length a.out.now = c.requires.written_bound.1 in
     let room : c.check_record-r.result.length ≤ length a.out.now - a.o = c.if-out-o.false in
     record { cells = c.requires.cells; clean_record = c.is_clean_record-clean.ensures; room = whole_room text (omega arith) }
 
-pub returns-in-Faulty : goal.returns-in-Faulty
+pub returns-in-Err : goal.returns-in-Err
 unfolding fault_at
-returns-in-Faulty c = is_refused (sym c.check_record-r.ensures.verdict_value ∙ c.in-Faulty.is) refl
+returns-in-Err c = is_refused (sym c.check_record-r.ensures.verdict_value ∙ c.in-Err.is) refl
 
 pub shape_of-out : goal.shape_of-out
 unfolding choose◌then◌else◌
 shape_of-out c =
     let a = c.args in
     let text = text_at (into a.t) a.p (cells_in (File a.d) a.s.now a.starts.now a.ends.now a.kinds.now) in
-    let long : c.check_record-r.result.length ≡ length text = c.check_record-r.ensures.length_value c.in-Sound.is in
+    let long : c.check_record-r.result.length ≡ length text = c.check_record-r.ensures.length_value c.in-Ok.is in
     let o : a.o ≤ length a.out.now = c.requires.written_bound.1 in
     let room : c.check_record-r.result.length ≤ length a.out.now - a.o = c.if-out-o.false in
     ap length c.write_line.ensures.text ∙ length_written a.out.now a.o text (omega arith)
@@ -54,8 +54,8 @@ unfolding choose◌then◌else◌ fault_at
 returns-else-out-o c =
     let a = c.args in
     let text = text_at (into a.t) a.p (cells_in (File a.d) a.s.now a.starts.now a.ends.now a.kinds.now) in
-    let long : c.check_record-r.result.length ≡ length text = c.check_record-r.ensures.length_value c.in-Sound.is in
+    let long : c.check_record-r.result.length ≡ length text = c.check_record-r.ensures.length_value c.in-Ok.is in
     let o : a.o ≤ length a.out.now = c.requires.written_bound.1 in
     let room : c.check_record-r.result.length ≤ length a.out.now - a.o = c.if-out-o.false in
     let p = c.write_line.ensures in
-    is_written (sym c.check_record-r.ensures.verdict_value ∙ c.in-Sound.is) (omega arith) p.text p.place
+    is_written (sym c.check_record-r.ensures.verdict_value ∙ c.in-Ok.is) (omega arith) p.text p.place

@@ -19,8 +19,8 @@ returns-then-starts-gt-MAX_COLUMNS c =
     c.requires.with_kinds in
     header_too_many c.args.rule cells (omega (arith, counted, c.if-starts-gt-MAX_COLUMNS.true))
 
-pub returns-in-Faulty : goal.returns-in-Faulty
-returns-in-Faulty c =
+pub returns-in-Err : goal.returns-in-Err
+returns-in-Err c =
     let cells = cells_in c.args.src c.args.s.now c.args.starts.now c.args.ends.now c.args.kinds.now in
     let counted : length cells ≡ length c.args.starts.now =
     cells_length c.args.src c.args.s.now c.args.starts.now c.args.ends.now c.args.kinds.now c.requires.with_ends
@@ -30,7 +30,7 @@ returns-in-Faulty c =
     (c.first_not_text.ensures
     ∙ not_text_cells 1 c.args.src c.args.s.now c.args.starts.now c.args.ends.now c.args.kinds.now
     c.requires.with_ends c.requires.with_kinds) in
-    header_not_text c.args.rule cells (omega (arith, counted, c.if-starts-gt-MAX_COLUMNS.false)) c.in-Faulty.e (kinds ∙ c.in-Faulty.is)
+    header_not_text c.args.rule cells (omega (arith, counted, c.if-starts-gt-MAX_COLUMNS.false)) c.in-Err.e (kinds ∙ c.in-Err.is)
 
 pub first_repeat-requires : goal.first_repeat-requires
 first_repeat-requires c = cells_named c.requires

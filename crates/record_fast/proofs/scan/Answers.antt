@@ -7,7 +7,7 @@ use lib.ListN.{length}
 use borrow.Author.Tests.{eqb-true}
 use Rattle.model.specs.rules.Report.{MAXFILE, MAXRECORD}
 use Rattle.codes.proofs.Least.{least_first, least_second, least_above}
-use Rattle.model.specs.rules.Api.{least}
+use Rattle.std.specs.Prelude.{min}
 use Rattle.record_scanner.specs.Stored.{stored_from}
 use Rattle.record_scanner.proofs.StoreLaws.{length_stored_if}
 use Rattle.record_fast.specs.FastScan.{RecordEndSound, is_fallback}
@@ -31,8 +31,8 @@ loop-at-init c =
     let start : ℕ = c.record_start-start.result in
     let most : ℕ = c.min_of-most.result in
     let stop : ℕ = c.min_of-stop.result in
-    let m : most ≡ least (length a.part.now) a.limit = c.min_of-most.ensures in
-    let s : stop ≡ least most (start + MAXRECORD) = c.min_of-stop.ensures in
+    let m : most ≡ min (length a.part.now) a.limit = c.min_of-most.ensures in
+    let s : stop ≡ min most (start + MAXRECORD) = c.min_of-stop.ensures in
     let m1 : most ≤ length a.part.now = rw m (least_first (length a.part.now) a.limit) in
     let m2 : most ≤ a.limit = rw m (least_second (length a.part.now) a.limit) in
     let s1 : stop ≤ most = rw s (least_first most (start + MAXRECORD)) in

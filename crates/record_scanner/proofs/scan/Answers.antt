@@ -67,25 +67,25 @@ next_token-requires c =
     let l = c.loop-i in
     (c.loop-i-test.true, c.if-limit-i.false, l.invariant.place.low)
 
-pub shape_of-starts-in-Reject : goal.shape_of-starts-in-Reject
-shape_of-starts-in-Reject c =
+pub shape_of-starts-in-Err : goal.shape_of-starts-in-Err
+shape_of-starts-in-Err c =
     let asked = ask _ c.loop-i.invariant c.loop-i-test.true c.if-limit-i.false (sym c.is_full.ensures ∙ c.if-is_full.false) c.next_token.ensures.lies c.next_token.ensures.token_correct in
     (lengths _ asked.scanning.lists).0
 
-pub shape_of-ends-in-Reject : goal.shape_of-ends-in-Reject
-shape_of-ends-in-Reject c =
+pub shape_of-ends-in-Err : goal.shape_of-ends-in-Err
+shape_of-ends-in-Err c =
     let asked = ask _ c.loop-i.invariant c.loop-i-test.true c.if-limit-i.false (sym c.is_full.ensures ∙ c.if-is_full.false) c.next_token.ensures.lies c.next_token.ensures.token_correct in
     (lengths _ asked.scanning.lists).1
 
-pub shape_of-kinds-in-Reject : goal.shape_of-kinds-in-Reject
-shape_of-kinds-in-Reject c =
+pub shape_of-kinds-in-Err : goal.shape_of-kinds-in-Err
+shape_of-kinds-in-Err c =
     let asked = ask _ c.loop-i.invariant c.loop-i-test.true c.if-limit-i.false (sym c.is_full.ensures ∙ c.if-is_full.false) c.next_token.ensures.lies c.next_token.ensures.token_correct in
     (lengths _ asked.scanning.lists).2
 
-pub returns-in-Reject : goal.returns-in-Reject
-returns-in-Reject c =
+pub returns-in-Err : goal.returns-in-Err
+returns-in-Err c =
     let asked = ask _ c.loop-i.invariant c.loop-i-test.true c.if-limit-i.false (sym c.is_full.ensures ∙ c.if-is_full.false) c.next_token.ensures.lies c.next_token.ensures.token_correct in
-    let o = step_refused _ (by_byte _ asked _ c.in-Is.is) _ c.in-Reject.is in
+    let o = step_refused _ (by_byte _ asked _ c.in-Is.is) _ c.in-Err.is in
     record { value = o.answer; starts_after = o.at_starts; ends_after = o.at_ends; kinds_after = o.at_kinds; scan_in_bounds = o.bounds }
 
 pub overflow_add-base : goal.overflow_add-base
@@ -129,21 +129,21 @@ pub returns-then-ends_record : goal.returns-then-ends_record
 returns-then-ends_record c =
     let asked = ask _ c.loop-i.invariant c.loop-i-test.true c.if-limit-i.false (sym c.is_full.ensures ∙ c.if-is_full.false) c.next_token.ensures.lies c.next_token.ensures.token_correct in
     let o =
-    step_over _ (by_byte _ asked _ c.in-Is.is) _ _ c.in-To.is _ c.closes_cell.ensures _ _ _
+    step_over _ (by_byte _ asked _ c.in-Is.is) _ _ c.in-Ok.is _ c.closes_cell.ensures _ _ _
     (c.store_cell.ensures.starts_after, (c.store_cell.ensures.ends_after, c.store_cell.ensures.kinds_after)) _ c.after_byte-h.ensures _ c.ends_record.ensures c.if-ends_record.true in
     record { value = o.answer; starts_after = o.at_starts; ends_after = o.at_ends; kinds_after = o.at_kinds; scan_in_bounds = o.bounds }
 
-pub loop-i-smaller-in-To : goal.loop-i-smaller-in-To
-loop-i-smaller-in-To c =
+pub loop-i-smaller-in-Ok : goal.loop-i-smaller-in-Ok
+loop-i-smaller-in-Ok c =
     let a = c.args in
     let l = c.loop-i in
     let m : l.i < length a.part.now = c.loop-i-test.true in
     let x : length a.part.now - (l.i + 1) < length a.part.now - l.i = omega arith in x
 
-pub loop-i-preserved-in-To : goal.loop-i-preserved-in-To
-loop-i-preserved-in-To c =
+pub loop-i-preserved-in-Ok : goal.loop-i-preserved-in-Ok
+loop-i-preserved-in-Ok c =
     let asked = ask _ c.loop-i.invariant c.loop-i-test.true c.if-limit-i.false (sym c.is_full.ensures ∙ c.if-is_full.false) c.next_token.ensures.lies c.next_token.ensures.token_correct in
-    step_on _ (by_byte _ asked _ c.in-Is.is) _ _ c.in-To.is _
+    step_on _ (by_byte _ asked _ c.in-Is.is) _ _ c.in-Ok.is _
     c.closes_cell.ensures _ _ _ (c.store_cell.ensures.starts_after, (c.store_cell.ensures.ends_after, c.store_cell.ensures.kinds_after)) _ c.after_byte-h.ensures _
     c.ends_record.ensures c.if-ends_record.false
 
@@ -193,39 +193,39 @@ bounds-part-j c =
     let asked = ask _ c.loop-i.invariant c.loop-i-test.true c.if-limit-i.false (sym c.is_full.ensures ∙ c.if-is_full.false) c.next_token.ensures.lies c.next_token.ensures.token_correct in
     (lies_cell _ asked _ _ c.in-AfterCell.is).1
 
-pub shape_of-starts-in-Reject-after_cell : goal.shape_of-starts-in-Reject-after_cell
-shape_of-starts-in-Reject-after_cell c =
+pub shape_of-starts-in-Err-after_cell : goal.shape_of-starts-in-Err-after_cell
+shape_of-starts-in-Err-after_cell c =
     let asked = ask _ c.loop-i.invariant c.loop-i-test.true c.if-limit-i.false (sym c.is_full.ensures ∙ c.if-is_full.false) c.next_token.ensures.lies c.next_token.ensures.token_correct in
     (lengths _ asked.scanning.lists).0
 
-pub shape_of-ends-in-Reject-after_cell : goal.shape_of-ends-in-Reject-after_cell
-shape_of-ends-in-Reject-after_cell c =
+pub shape_of-ends-in-Err-after_cell : goal.shape_of-ends-in-Err-after_cell
+shape_of-ends-in-Err-after_cell c =
     let asked = ask _ c.loop-i.invariant c.loop-i-test.true c.if-limit-i.false (sym c.is_full.ensures ∙ c.if-is_full.false) c.next_token.ensures.lies c.next_token.ensures.token_correct in
     (lengths _ asked.scanning.lists).1
 
-pub shape_of-kinds-in-Reject-after_cell : goal.shape_of-kinds-in-Reject-after_cell
-shape_of-kinds-in-Reject-after_cell c =
+pub shape_of-kinds-in-Err-after_cell : goal.shape_of-kinds-in-Err-after_cell
+shape_of-kinds-in-Err-after_cell c =
     let asked = ask _ c.loop-i.invariant c.loop-i-test.true c.if-limit-i.false (sym c.is_full.ensures ∙ c.if-is_full.false) c.next_token.ensures.lies c.next_token.ensures.token_correct in
     (lengths _ asked.scanning.lists).2
 
-pub returns-in-Reject-after_cell : goal.returns-in-Reject-after_cell
-returns-in-Reject-after_cell c =
+pub returns-in-Err-after_cell : goal.returns-in-Err-after_cell
+returns-in-Err-after_cell c =
     let asked = ask _ c.loop-i.invariant c.loop-i-test.true c.if-limit-i.false (sym c.is_full.ensures ∙ c.if-is_full.false) c.next_token.ensures.lies c.next_token.ensures.token_correct in
     let o =
     step_refused _ (by_cell _ asked _ _ c.in-AfterCell.is _
-    c.after_bytes-h.ensures _ c.after_cell.ensures) _ c.in-Reject-after_cell.is in
+    c.after_bytes-h.ensures _ c.after_cell.ensures) _ c.in-Err-after_cell.is in
     record { value = o.answer; starts_after = o.at_starts; ends_after = o.at_ends; kinds_after = o.at_kinds; scan_in_bounds = o.bounds }
 
-pub overflow_add-base-in-To-after_cell : goal.overflow_add-base-in-To-after_cell
-overflow_add-base-in-To-after_cell c =
+pub overflow_add-base-in-Ok-after_cell : goal.overflow_add-base-in-Ok-after_cell
+overflow_add-base-in-Ok-after_cell c =
     let asked = ask _ c.loop-i.invariant c.loop-i-test.true c.if-limit-i.false (sym c.is_full.ensures ∙ c.if-is_full.false) c.next_token.ensures.lies c.next_token.ensures.token_correct in
     let g =
     by_cell _ asked _ _ c.in-AfterCell.is _
     c.after_bytes-h.ensures _ c.after_cell.ensures in
     let x = small_sum _ g in record { fits = x }
 
-pub store_cell-requires-in-To-after_cell : goal.store_cell-requires-in-To-after_cell
-store_cell-requires-in-To-after_cell c =
+pub store_cell-requires-in-Ok-after_cell : goal.store_cell-requires-in-Ok-after_cell
+store_cell-requires-in-Ok-after_cell c =
     let asked = ask _ c.loop-i.invariant c.loop-i-test.true c.if-limit-i.false (sym c.is_full.ensures ∙ c.if-is_full.false) c.next_token.ensures.lies c.next_token.ensures.token_correct in
     let l = c.loop-i in
     let g =
@@ -235,16 +235,16 @@ store_cell-requires-in-To-after_cell c =
     let q = c.requires.room_in_bounds in
     record { opened_le_i = (g.place.opened, g.place.inside); room_in_bounds = (rw n.0 q.0, rw n.1 q.1, rw n.2 q.2) }
 
-pub after_byte-h-requires-in-To-after_cell : goal.after_byte-h-requires-in-To-after_cell
-after_byte-h-requires-in-To-after_cell c =
+pub after_byte-h-requires-in-Ok-after_cell : goal.after_byte-h-requires-in-Ok-after_cell
+after_byte-h-requires-in-Ok-after_cell c =
     let asked = ask _ c.loop-i.invariant c.loop-i-test.true c.if-limit-i.false (sym c.is_full.ensures ∙ c.if-is_full.false) c.next_token.ensures.lies c.next_token.ensures.token_correct in
     let g =
     by_cell _ asked _ _ c.in-AfterCell.is _
     c.after_bytes-h.ensures _ c.after_cell.ensures in
     small_step _ g
 
-pub overflow_add-i-in-To-after_cell : goal.overflow_add-i-in-To-after_cell
-overflow_add-i-in-To-after_cell c =
+pub overflow_add-i-in-Ok-after_cell : goal.overflow_add-i-in-Ok-after_cell
+overflow_add-i-in-Ok-after_cell c =
     let asked = ask _ c.loop-i.invariant c.loop-i-test.true c.if-limit-i.false (sym c.is_full.ensures ∙ c.if-is_full.false) c.next_token.ensures.lies c.next_token.ensures.token_correct in
     let g =
     by_cell _ asked _ _ c.in-AfterCell.is _
@@ -255,39 +255,39 @@ pub shape_of-starts-then-ends_record-2 : goal.shape_of-starts-then-ends_record-2
 shape_of-starts-then-ends_record-2 c =
     let asked = ask _ c.loop-i.invariant c.loop-i-test.true c.if-limit-i.false (sym c.is_full.ensures ∙ c.if-is_full.false) c.next_token.ensures.lies c.next_token.ensures.token_correct in
     (put_lengths _ asked.scanning.lists _ _ _
-    _ _ (c.store_cell-in-To-after_cell.ensures.starts_after, (c.store_cell-in-To-after_cell.ensures.ends_after, c.store_cell-in-To-after_cell.ensures.kinds_after))).0
+    _ _ (c.store_cell-in-Ok-after_cell.ensures.starts_after, (c.store_cell-in-Ok-after_cell.ensures.ends_after, c.store_cell-in-Ok-after_cell.ensures.kinds_after))).0
 
 pub shape_of-ends-then-ends_record-2 : goal.shape_of-ends-then-ends_record-2
 shape_of-ends-then-ends_record-2 c =
     let asked = ask _ c.loop-i.invariant c.loop-i-test.true c.if-limit-i.false (sym c.is_full.ensures ∙ c.if-is_full.false) c.next_token.ensures.lies c.next_token.ensures.token_correct in
     (put_lengths _ asked.scanning.lists _ _ _
-    _ _ (c.store_cell-in-To-after_cell.ensures.starts_after, (c.store_cell-in-To-after_cell.ensures.ends_after, c.store_cell-in-To-after_cell.ensures.kinds_after))).1
+    _ _ (c.store_cell-in-Ok-after_cell.ensures.starts_after, (c.store_cell-in-Ok-after_cell.ensures.ends_after, c.store_cell-in-Ok-after_cell.ensures.kinds_after))).1
 
 pub shape_of-kinds-then-ends_record-2 : goal.shape_of-kinds-then-ends_record-2
 shape_of-kinds-then-ends_record-2 c =
     let asked = ask _ c.loop-i.invariant c.loop-i-test.true c.if-limit-i.false (sym c.is_full.ensures ∙ c.if-is_full.false) c.next_token.ensures.lies c.next_token.ensures.token_correct in
     (put_lengths _ asked.scanning.lists _ _ _
-    _ _ (c.store_cell-in-To-after_cell.ensures.starts_after, (c.store_cell-in-To-after_cell.ensures.ends_after, c.store_cell-in-To-after_cell.ensures.kinds_after))).2
+    _ _ (c.store_cell-in-Ok-after_cell.ensures.starts_after, (c.store_cell-in-Ok-after_cell.ensures.ends_after, c.store_cell-in-Ok-after_cell.ensures.kinds_after))).2
 
 pub returns-then-ends_record-2 : goal.returns-then-ends_record-2
 returns-then-ends_record-2 c =
     let asked = ask _ c.loop-i.invariant c.loop-i-test.true c.if-limit-i.false (sym c.is_full.ensures ∙ c.if-is_full.false) c.next_token.ensures.lies c.next_token.ensures.token_correct in
     let o =
     step_over _ (by_cell _ asked _ _ c.in-AfterCell.is _ c.after_bytes-h.ensures _
-    c.after_cell.ensures) _ _ c.in-To-after_cell.is _ c.closes_cell-in-To-after_cell.ensures _ _ _ (c.store_cell-in-To-after_cell.ensures.starts_after, (c.store_cell-in-To-after_cell.ensures.ends_after, c.store_cell-in-To-after_cell.ensures.kinds_after)) _ c.after_byte-h-in-To-after_cell.ensures _ c.ends_record-in-To-after_cell.ensures c.if-ends_record-2.true in
+    c.after_cell.ensures) _ _ c.in-Ok-after_cell.is _ c.closes_cell-in-Ok-after_cell.ensures _ _ _ (c.store_cell-in-Ok-after_cell.ensures.starts_after, (c.store_cell-in-Ok-after_cell.ensures.ends_after, c.store_cell-in-Ok-after_cell.ensures.kinds_after)) _ c.after_byte-h-in-Ok-after_cell.ensures _ c.ends_record-in-Ok-after_cell.ensures c.if-ends_record-2.true in
     record { value = o.answer; starts_after = o.at_starts; ends_after = o.at_ends; kinds_after = o.at_kinds; scan_in_bounds = o.bounds }
 
-pub loop-i-smaller-in-To-after_cell : goal.loop-i-smaller-in-To-after_cell
-loop-i-smaller-in-To-after_cell c =
+pub loop-i-smaller-in-Ok-after_cell : goal.loop-i-smaller-in-Ok-after_cell
+loop-i-smaller-in-Ok-after_cell c =
     let asked = ask _ c.loop-i.invariant c.loop-i-test.true c.if-limit-i.false (sym c.is_full.ensures ∙ c.if-is_full.false) c.next_token.ensures.lies c.next_token.ensures.token_correct in
     let n = lies_cell _ asked _ _ c.in-AfterCell.is in let j1 = n.0 in let j2 = n.1 in omega arith
 
-pub loop-i-preserved-in-To-after_cell : goal.loop-i-preserved-in-To-after_cell
-loop-i-preserved-in-To-after_cell c =
+pub loop-i-preserved-in-Ok-after_cell : goal.loop-i-preserved-in-Ok-after_cell
+loop-i-preserved-in-Ok-after_cell c =
     let asked = ask _ c.loop-i.invariant c.loop-i-test.true c.if-limit-i.false (sym c.is_full.ensures ∙ c.if-is_full.false) c.next_token.ensures.lies c.next_token.ensures.token_correct in
     step_on _ (by_cell _ asked _ _ c.in-AfterCell.is _
     c.after_bytes-h.ensures _
-    c.after_cell.ensures) _ _ c.in-To-after_cell.is _ c.closes_cell-in-To-after_cell.ensures _ _ _ (c.store_cell-in-To-after_cell.ensures.starts_after, (c.store_cell-in-To-after_cell.ensures.ends_after, c.store_cell-in-To-after_cell.ensures.kinds_after)) _ c.after_byte-h-in-To-after_cell.ensures _ c.ends_record-in-To-after_cell.ensures c.if-ends_record-2.false
+    c.after_cell.ensures) _ _ c.in-Ok-after_cell.is _ c.closes_cell-in-Ok-after_cell.ensures _ _ _ (c.store_cell-in-Ok-after_cell.ensures.starts_after, (c.store_cell-in-Ok-after_cell.ensures.ends_after, c.store_cell-in-Ok-after_cell.ensures.kinds_after)) _ c.after_byte-h-in-Ok-after_cell.ensures _ c.ends_record-in-Ok-after_cell.ensures c.if-ends_record-2.false
 
 pub shape_of-starts-in-Refused : goal.shape_of-starts-in-Refused
 shape_of-starts-in-Refused c =

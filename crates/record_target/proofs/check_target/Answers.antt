@@ -3,7 +3,7 @@ use mathlib.Core.Path.{◌≡◌, sym, ◌∙◌}
 use mathlib.Core.Bool.{false, not, ◌&&◌}
 use mathlib.Core.List.{List}
 use lib.ListN.{length}
-use Rattle.model.specs.declared.CheckResult.TheVariants.{Sound}
+use Rattle.std.specs.Prelude.{Ok}
 use Rattle.model.specs.rules.Base.{is_empty}
 use Rattle.model.specs.rules.Dialect.{is_csvj, into}
 use Rattle.model.specs.rules.Records.{uncarried_from, clash_fault}
@@ -28,38 +28,38 @@ returns-then-lacks_cells c =
       length_value = λ s. fault_sound (sym c.refused.ensures ∙ s);
     }
 
-pub returns-in-Faulty : goal.returns-in-Faulty
-returns-in-Faulty c =
+pub returns-in-Err : goal.returns-in-Err
+returns-in-Err c =
     let cells : List Value = cells_in c.args.src c.args.s.now c.args.starts.now c.args.ends.now c.args.kinds.now in
     let counted : length cells ≡ length c.args.starts.now =
     let a = c.args in cells_length a.src a.s.now a.starts.now a.ends.now a.kinds.now c.requires.cells.with_ends c.requires.cells.with_kinds in
     let has : (c.args.header && is_empty cells && not (is_csvj c.args.t)) ≡ false =
     sym (c.lacks_cells.ensures cells (counted)) ∙ c.if-lacks_cells.false in
     let a = c.args in record {
-      verdict_value = c.refused-in-Faulty.ensures
+      verdict_value = c.refused-in-Err.ensures
           ∙ sym
           (lacks a.t a.header a.written cells (has) _
-          (sym c.measure-x.ensures.carries_value ∙ c.in-Faulty.is));
-      length_value = λ s. fault_sound (sym c.refused-in-Faulty.ensures ∙ s);
+          (sym c.measure-x.ensures.carries_value ∙ c.in-Err.is));
+      length_value = λ s. fault_sound (sym c.refused-in-Err.ensures ∙ s);
     }
 
 pub name_clash-requires : goal.name_clash-requires
 name_clash-requires c = cells_named c.requires.cells
 
-pub returns-in-Faulty-name_clash : goal.returns-in-Faulty-name_clash
-returns-in-Faulty-name_clash c =
+pub returns-in-Err-name_clash : goal.returns-in-Err-name_clash
+returns-in-Err-name_clash c =
     let cells : List Value = cells_in c.args.src c.args.s.now c.args.starts.now c.args.ends.now c.args.kinds.now in
     let counted : length cells ≡ length c.args.starts.now =
     let a = c.args in cells_length a.src a.s.now a.starts.now a.ends.now a.kinds.now c.requires.cells.with_ends c.requires.cells.with_kinds in
     let has : (c.args.header && is_empty cells && not (is_csvj c.args.t)) ≡ false =
     sym (c.lacks_cells.ensures cells (counted)) ∙ c.if-lacks_cells.false in
-    let carries : uncarried_from c.args.t 1 cells ≡ Sound =
+    let carries : uncarried_from c.args.t 1 cells ≡ Ok tt =
     sym c.measure-x.ensures.carries_value ∙ c.in_default.is in
     let clash : clash_fault c.args.t c.args.header cells ≡ c.name_clash.result =
     sym (c.name_clash.ensures c.args.kinds.now (sym c.requires.cells.with_kinds)) in
     let a = c.args in record {
-      verdict_value = c.refused-in-Faulty-name_clash.ensures ∙ sym (clashes a.t a.header a.written cells (has) (carries) _ (clash ∙ c.in-Faulty-name_clash.is));
-      length_value = λ s. fault_sound (sym c.refused-in-Faulty-name_clash.ensures ∙ s);
+      verdict_value = c.refused-in-Err-name_clash.ensures ∙ sym (clashes a.t a.header a.written cells (has) (carries) _ (clash ∙ c.in-Err-name_clash.is));
+      length_value = λ s. fault_sound (sym c.refused-in-Err-name_clash.ensures ∙ s);
     }
 
 pub check_size-requires : goal.check_size-requires
@@ -72,7 +72,7 @@ returns c =
     let a = c.args in cells_length a.src a.s.now a.starts.now a.ends.now a.kinds.now c.requires.cells.with_ends c.requires.cells.with_kinds in
     let has : (c.args.header && is_empty cells && not (is_csvj c.args.t)) ≡ false =
     sym (c.lacks_cells.ensures cells (counted)) ∙ c.if-lacks_cells.false in
-    let carries : uncarried_from c.args.t 1 cells ≡ Sound =
+    let carries : uncarried_from c.args.t 1 cells ≡ Ok tt =
     sym c.measure-x.ensures.carries_value ∙ c.in_default.is in
     let clash : clash_fault c.args.t c.args.header cells ≡ c.name_clash.result =
     sym (c.name_clash.ensures c.args.kinds.now (sym c.requires.cells.with_kinds)) in

@@ -7,21 +7,21 @@ use borrow.Author.Tests.{le-leb, lt-leb, eq-eqb, ne_eqb}
 use Rattle.model.specs.rules.Base.{choose◌then◌else◌, within}
 use Rattle.model.specs.rules.Utf8.{row_of, leads, after_second, inner_step}
 use Rattle.model.specs.declared.Inner.TheVariants.{Second}
-use Rattle.model.specs.declared.Advance.TheVariants.{On, Broken}
+use Rattle.std.specs.Prelude.{Some, None}
 use Rattle.utf8.proofs.Table.{sizes, lows, highs, second_at}
 use Rattle.utf8.proofs.second_byte.Goals as goal
 
 pub returns-then-b-row : goal.returns-then-b-row
 unfolding leads row_of choose◌then◌else◌
 returns-then-b-row c =
-    let at_row : inner_step (Second c.args.l) c.args.b ≡ (choose within (get_or lows c.row_of-row.result 0) (get_or highs c.row_of-row.result 0) c.args.b then On (after_second (get_or sizes c.row_of-row.result 0)) else Broken) =
+    let at_row : inner_step (Second c.args.l) c.args.b ≡ (choose within (get_or lows c.row_of-row.result 0) (get_or highs c.row_of-row.result 0) c.args.b then Some (after_second (get_or sizes c.row_of-row.result 0)) else None) =
     second_at c.row_of-row.result c.args.b c.row_of-row.ensures.0 c.row_of-row.ensures.1 in
     sym (at_row ∙ simp (lt-leb (get_or lows c.row_of-row.result 0) c.args.b c.if-b-row.true))
 
 pub returns-then-row-b : goal.returns-then-row-b
 unfolding leads row_of choose◌then◌else◌
 returns-then-row-b c =
-    let at_row : inner_step (Second c.args.l) c.args.b ≡ (choose within (get_or lows c.row_of-row.result 0) (get_or highs c.row_of-row.result 0) c.args.b then On (after_second (get_or sizes c.row_of-row.result 0)) else Broken) =
+    let at_row : inner_step (Second c.args.l) c.args.b ≡ (choose within (get_or lows c.row_of-row.result 0) (get_or highs c.row_of-row.result 0) c.args.b then Some (after_second (get_or sizes c.row_of-row.result 0)) else None) =
     second_at c.row_of-row.result c.args.b c.row_of-row.ensures.0 c.row_of-row.ensures.1 in
     let from_low : leb (get_or lows c.row_of-row.result 0) c.args.b ≡ true =
     le-leb _ _ c.if-b-row.false in
@@ -31,7 +31,7 @@ returns-then-row-b c =
 pub returns-then-size-eq2 : goal.returns-then-size-eq2
 unfolding leads row_of choose◌then◌else◌
 returns-then-size-eq2 c =
-    let at_row : inner_step (Second c.args.l) c.args.b ≡ (choose within (get_or lows c.row_of-row.result 0) (get_or highs c.row_of-row.result 0) c.args.b then On (after_second (get_or sizes c.row_of-row.result 0)) else Broken) =
+    let at_row : inner_step (Second c.args.l) c.args.b ≡ (choose within (get_or lows c.row_of-row.result 0) (get_or highs c.row_of-row.result 0) c.args.b then Some (after_second (get_or sizes c.row_of-row.result 0)) else None) =
     second_at c.row_of-row.result c.args.b c.row_of-row.ensures.0 c.row_of-row.ensures.1 in
     let from_low : leb (get_or lows c.row_of-row.result 0) c.args.b ≡ true =
     le-leb _ _ c.if-b-row.false in
@@ -43,7 +43,7 @@ returns-then-size-eq2 c =
 pub returns-then-size-eq3 : goal.returns-then-size-eq3
 unfolding leads row_of choose◌then◌else◌
 returns-then-size-eq3 c =
-    let at_row : inner_step (Second c.args.l) c.args.b ≡ (choose within (get_or lows c.row_of-row.result 0) (get_or highs c.row_of-row.result 0) c.args.b then On (after_second (get_or sizes c.row_of-row.result 0)) else Broken) =
+    let at_row : inner_step (Second c.args.l) c.args.b ≡ (choose within (get_or lows c.row_of-row.result 0) (get_or highs c.row_of-row.result 0) c.args.b then Some (after_second (get_or sizes c.row_of-row.result 0)) else None) =
     second_at c.row_of-row.result c.args.b c.row_of-row.ensures.0 c.row_of-row.ensures.1 in
     let from_low : leb (get_or lows c.row_of-row.result 0) c.args.b ≡ true =
     le-leb _ _ c.if-b-row.false in
@@ -62,7 +62,7 @@ returns-then-size-eq3 c =
 pub returns : goal.returns
 unfolding leads row_of choose◌then◌else◌
 returns c =
-    let at_row : inner_step (Second c.args.l) c.args.b ≡ (choose within (get_or lows c.row_of-row.result 0) (get_or highs c.row_of-row.result 0) c.args.b then On (after_second (get_or sizes c.row_of-row.result 0)) else Broken) =
+    let at_row : inner_step (Second c.args.l) c.args.b ≡ (choose within (get_or lows c.row_of-row.result 0) (get_or highs c.row_of-row.result 0) c.args.b then Some (after_second (get_or sizes c.row_of-row.result 0)) else None) =
     second_at c.row_of-row.result c.args.b c.row_of-row.ensures.0 c.row_of-row.ensures.1 in
     let from_low : leb (get_or lows c.row_of-row.result 0) c.args.b ≡ true =
     le-leb _ _ c.if-b-row.false in

@@ -15,13 +15,13 @@ use Rattle.file_cursor.proofs.RecordChecks.{data_checked, asked_faulty, asked_re
 use Rattle.file_cursor.proofs.FastNext.{no_header}
 use Rattle.file_cursor.proofs.fast.check_record.Goals as goal
 
-pub returns-in-Faulty : goal.returns-in-Faulty
-returns-in-Faulty c =
+pub returns-in-Err : goal.returns-in-Err
+returns-in-Err c =
     let a = c.args in
     let cells = cells_in (File a.d) a.file.now a.starts.now a.ends.now a.kinds.now in
     let long = cells_length (File a.d) a.file.now a.starts.now a.ends.now a.kinds.now c.requires.cells.with_ends c.requires.cells.with_kinds in
     let source = data_checked a.d cells _ a.cursor.done a.cursor.columns c.requires.fact.0 (c.«data».ensures cells long) in
-    asked_faulty a.d a.cursor cells _ source a.aim _ c.in-Faulty.is
+    asked_faulty a.d a.cursor cells _ source a.aim _ c.in-Err.is
 
 pub check_target-requires : goal.check_target-requires
 check_target-requires c = record { cells = c.requires.cells; clean_record = λ e. clean_data (c.requires.clean_in e); written_bound = c.requires.fact.1 }

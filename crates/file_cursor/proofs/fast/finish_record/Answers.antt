@@ -44,20 +44,20 @@ overflow_add-result c =
     let m : c.args.cursor.done ≤ 16777215 = c.requires.fact.1 in
     omega arith
 
-pub overflow_add-result-in-Sound : goal.overflow_add-result-in-Sound
-overflow_add-result-in-Sound c =
+pub overflow_add-result-in-Ok : goal.overflow_add-result-in-Ok
+overflow_add-result-in-Ok c =
     let a = c.args in
     let f : a.cursor.written + c.check_record-r.result.length ≤ 16777215
-    = c.check_record-r.ensures.fits c.in-Sound.is in
+    = c.check_record-r.ensures.fits c.in-Ok.is in
     omega arith
 
-pub returns-in-Faulty : goal.returns-in-Faulty
-returns-in-Faulty c = λ rs vs start y z. unsure
+pub returns-in-Err : goal.returns-in-Err
+returns-in-Err c = λ rs vs start y z. unsure
 
-pub returns-in-Sound : goal.returns-in-Sound
-returns-in-Sound c =
+pub returns-in-Ok : goal.returns-in-Ok
+returns-in-Ok c =
     let a = c.args in
-    let kept = c.in-Sound.is in
+    let kept = c.in-Ok.is in
     λ rs vs start y z.
     sound
     (ruled_sound a.d a.aim a.file.now a.starts.now a.ends.now a.kinds.now a.cursor start a.cells a.state a.next rs vs y z

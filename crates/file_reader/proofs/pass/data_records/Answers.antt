@@ -51,7 +51,7 @@ returns-then-last c =
     let l = c.loop-start in
     let v = c.next_data.ensures in
     last_accepted _ l.invariant (v.value, (v.starts_after, (v.ends_after, (v.kinds_after, v.event_in_bounds)))) _ _ _ _ _ c.in-Record.is _ c.«data».ensures
-    c.if-last.true c.in-Sound.is
+    c.if-last.true c.in-Ok.is
 
 pub loop-start-smaller : goal.loop-start-smaller
 loop-start-smaller c =
@@ -67,36 +67,36 @@ loop-start-preserved c =
     let l = c.loop-start in
     let v = c.next_data.ensures in
     record_on _ l.invariant (v.value, (v.starts_after, (v.ends_after, (v.kinds_after, v.event_in_bounds)))) _ _ _ _ _ c.in-Record.is _ c.«data».ensures
-    c.if-last.false c.in-Sound.is
+    c.if-last.false c.in-Ok.is
 
-pub overflow_add-records-in-Faulty : goal.overflow_add-records-in-Faulty
-overflow_add-records-in-Faulty c =
+pub overflow_add-records-in-Err : goal.overflow_add-records-in-Err
+overflow_add-records-in-Err c =
     let l = c.loop-start in
     let under : l.i ≤ MAXFILE = l.invariant.under in
     let many : l.records ≤ l.i = l.invariant.many in
     omega arith
 
-pub shape_of-starts-in-Faulty : goal.shape_of-starts-in-Faulty
-shape_of-starts-in-Faulty c =
+pub shape_of-starts-in-Err : goal.shape_of-starts-in-Err
+shape_of-starts-in-Err c =
     let v = c.next_data.ensures in
     (held_lengths (now_held _ c.loop-start.invariant (v.value, (v.starts_after, (v.ends_after, (v.kinds_after, v.event_in_bounds)))))).0
 
-pub shape_of-ends-in-Faulty : goal.shape_of-ends-in-Faulty
-shape_of-ends-in-Faulty c =
+pub shape_of-ends-in-Err : goal.shape_of-ends-in-Err
+shape_of-ends-in-Err c =
     let v = c.next_data.ensures in
     (held_lengths (now_held _ c.loop-start.invariant (v.value, (v.starts_after, (v.ends_after, (v.kinds_after, v.event_in_bounds)))))).1
 
-pub shape_of-kinds-in-Faulty : goal.shape_of-kinds-in-Faulty
-shape_of-kinds-in-Faulty c =
+pub shape_of-kinds-in-Err : goal.shape_of-kinds-in-Err
+shape_of-kinds-in-Err c =
     let v = c.next_data.ensures in
     (held_lengths (now_held _ c.loop-start.invariant (v.value, (v.starts_after, (v.ends_after, (v.kinds_after, v.event_in_bounds)))))).2
 
-pub returns-in-Faulty : goal.returns-in-Faulty
-returns-in-Faulty c =
+pub returns-in-Err : goal.returns-in-Err
+returns-in-Err c =
     let l = c.loop-start in
     let v = c.next_data.ensures in
     record_refused _ l.invariant (v.value, (v.starts_after, (v.ends_after, (v.kinds_after, v.event_in_bounds)))) _ _ _ _ _ c.in-Record.is _ c.«data».ensures
-    _ c.in-Faulty.is _ c.record_report.ensures
+    _ c.in-Err.is _ c.record_report.ensures
 
 pub overflow_add-records-in-Failed : goal.overflow_add-records-in-Failed
 overflow_add-records-in-Failed c =

@@ -35,17 +35,17 @@ write_record-requires c =
     record { cells = c.requires.cells m; clean_in = c.requires.clean_in m; before_bound = (c.requires.written_bound.0, c.requires.written_bound.3) }
 
 pub overflow_sub-result : goal.overflow_sub-result
-overflow_sub-result c = (written_fits (put_to c.write_record.ensures c.in-To.is)).0
+overflow_sub-result c = (written_fits (put_to c.write_record.ensures c.in-Ok.is)).0
 
-pub overflow_add-result-in-To-3 : goal.overflow_add-result-in-To-3
-overflow_add-result-in-To-3 c =
-    let l = (written_fits (put_to c.write_record.ensures c.in-To.is)).1 in
+pub overflow_add-result-in-Ok-3 : goal.overflow_add-result-in-Ok-3
+overflow_add-result-in-Ok-3 c =
+    let l = (written_fits (put_to c.write_record.ensures c.in-Ok.is)).1 in
     omega (arith, l)
 
 pub returns-in-Fallback : goal.returns-in-Fallback
 returns-in-Fallback c = not_found (put_nowhere c.write_record.ensures c.in-Fallback.is)
 
-pub returns-in-To : goal.returns-in-To
-returns-in-To c =
+pub returns-in-Ok : goal.returns-in-Ok
+returns-in-Ok c =
     written_place c.args.n c.args.next c.args.state c.args.cells c.requires.fact c.if-cells-gt-MAX_COLUMNS.false
-    (put_to c.write_record.ensures c.in-To.is)
+    (put_to c.write_record.ensures c.in-Ok.is)

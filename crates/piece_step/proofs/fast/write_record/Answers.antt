@@ -21,14 +21,14 @@ place_of : {old : Bytes} {o : ℕ} {w new : Bytes} {r : ℕ} → WrittenAt true 
 unfolding choose◌then◌else◌
 place_of p = (p.text, p.place)
 
-pub returns-in-Faulty : goal.returns-in-Faulty
-returns-in-Faulty c = no_text refl
+pub returns-in-Err : goal.returns-in-Err
+returns-in-Err c = no_text refl
 
 pub check_target-r-requires : goal.check_target-r-requires
 check_target-r-requires c = record { cells = c.requires.cells; clean_record = λ e. clean_data (c.requires.clean_in e); written_bound = c.requires.before_bound.0 }
 
-pub returns-in-Faulty-v : goal.returns-in-Faulty-v
-returns-in-Faulty-v c = no_text refl
+pub returns-in-Err-v : goal.returns-in-Err-v
+returns-in-Err-v c = no_text refl
 
 pub returns-then-out-o : goal.returns-then-out-o
 returns-then-out-o c = no_text refl

@@ -4,7 +4,7 @@ use native.Mathlib.Omega.{arith}
 use mathlib.Core.Path.{◌≡◌, refl}
 use lib.ListN.{length}
 use Rattle.model.specs.rules.Base.{Bytes}
-use Rattle.model.specs.rules.Api.{least}
+use Rattle.std.specs.Prelude.{min}
 use Rattle.model.specs.declared.Char.{Char}
 use Rattle.model.specs.declared.FileState.{FileState}
 use Rattle.model.specs.declared.FileState.TheVariants.{Top, Begin, Ended, Bom1, Bom2, PlainBom1, PlainBom2, Comment, Blanks, ExpectCell, Inside, After, Cr}
@@ -34,7 +34,7 @@ comment_run-requires c =
     let n : ℕ = length c.args.part.now in
     let limit : ℕ = c.args.limit in
     let i : ℕ = c.args.i in
-    let l : i < least n limit = least_above i n limit a b in
+    let l : i < min n limit = least_above i n limit a b in
     rw c.min_of.ensures (omega arith, least_first n limit)
 
 pub returns-in-Whole : goal.returns-in-Whole

@@ -2,7 +2,7 @@
 use mathlib.Core.Path.{◌≡◌, sym, ap, ◌∙◌}
 use mathlib.Core.Bool.{true, false}
 use native.Mathlib.Omega.{arith}
-use Rattle.model.specs.declared.CheckResult.{CheckResult}
+use Rattle.model.specs.rules.Types.{CheckResult}
 use Rattle.model.specs.rules.Dialect.{is_csvj}
 use Rattle.model.specs.rules.Records.{◌or_else◌, has_kind}
 use Rattle.model.specs.rules.Text.{is_text}

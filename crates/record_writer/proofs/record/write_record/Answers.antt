@@ -8,7 +8,7 @@ use Rattle.model.specs.rules.Dialect.{into}
 use Rattle.model.specs.rules.Base.{Bytes}
 use Rattle.model.specs.rules.Text.{record_text}
 use Rattle.model.specs.declared.Kind.{Kind}
-use Rattle.model.specs.declared.CheckResult.{CheckResult}
+use Rattle.model.specs.rules.Types.{CheckResult}
 use Rattle.model.specs.rules.Records.{◌or_else◌}
 use Rattle.model.specs.rules.Api.{slice}
 use Rattle.buffer.proofs.WriteProgress.{Emitting, same_long, room_next, put_next, put_whole}

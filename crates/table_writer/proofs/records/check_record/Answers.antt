@@ -9,12 +9,12 @@ use Rattle.cell_decoder.specs.Sources.{cells_in}
 use Rattle.table_writer.proofs.Rows.{header_faulty, header_sound}
 use Rattle.table_writer.proofs.records.check_record.Goals as goal
 
-pub returns-in-Faulty : goal.returns-in-Faulty
-returns-in-Faulty c =
+pub returns-in-Err : goal.returns-in-Err
+returns-in-Err c =
     let cells : List Value = cells_in Contents c.args.content.now c.args.starts.now c.args.ends.now c.args.kinds.now in
     let a = c.args in
     record {
-      verdict_value = header_faulty a.t a.header a.written cells c.in-Faulty.e (sym c.header_fault.ensures ∙ c.in-Faulty.is);
+      verdict_value = header_faulty a.t a.header a.written cells c.in-Err.e (sym c.header_fault.ensures ∙ c.in-Err.is);
       length_value = λ e. fault_sound e;
     }
 

@@ -4,7 +4,7 @@ use Prim.Native.Nat.{◌+◌, ◌≤◌}
 use native.Mathlib.Omega.{arith}
 use lib.ListN.{length}
 use lib.Dec.{eqb}
-use Rattle.model.specs.declared.CheckResult.TheVariants.{Sound}
+use Rattle.std.specs.Prelude.{Ok}
 use Rattle.model.specs.rules.Dialect.{into}
 use Rattle.model.specs.rules.Text.{Value, record_text, ending}
 use Rattle.cell_decoder.specs.declared.source.Source.TheVariants.{Contents}
@@ -105,8 +105,8 @@ check_record-r-requires c =
       written_bound = l.invariant.within;
     }
 
-pub returns-in-Faulty : goal.returns-in-Faulty
-returns-in-Faulty c =
+pub returns-in-Err : goal.returns-in-Err
+returns-in-Err c =
     let cells : List Value = cells_in Contents c.args.content.now c.args.starts.now c.args.ends.now c.args.kinds.now in
     let verdict-at : (let l = c.loop-n in c.check_record-r.result.verdict ≡ row_check c.args.t (eqb l.n 0) l.size (row_at cells c.args.columns l.at)) =
     let l = c.loop-n in
@@ -115,8 +115,8 @@ returns-in-Faulty c =
     ∙ ap (row_check a.t (eqb l.n 0) l.size) (part_cells Contents a.content.now a.starts.now a.ends.now a.kinds.now l.at a.columns) in
     ap Refused c.record_report.ensures
     ∙ sym
-    (measured_fault c.loop-n.invariant c.loop-n-test.true c.in-Faulty.e
-    (sym (verdict-at) ∙ c.in-Faulty.is))
+    (measured_fault c.loop-n.invariant c.loop-n-test.true c.in-Err.e
+    (sym (verdict-at) ∙ c.in-Err.is))
 
 pub overflow_add-size : goal.overflow_add-size
 overflow_add-size c =
@@ -126,7 +126,7 @@ overflow_add-size c =
     let a = c.args in
     c.check_record-r.ensures.verdict_value
     ∙ ap (row_check a.t (eqb l.n 0) l.size) (part_cells Contents a.content.now a.starts.now a.ends.now a.kinds.now l.at a.columns) in
-    let length_at : (let l = c.loop-n in c.check_record-r.result.verdict ≡ Sound → c.check_record-r.result.length ≡ length (record_text (into c.args.t) (eqb l.n 0) (row_at cells c.args.columns l.at) ++ ending c.args.t)) =
+    let length_at : (let l = c.loop-n in c.check_record-r.result.verdict ≡ Ok tt → c.check_record-r.result.length ≡ length (record_text (into c.args.t) (eqb l.n 0) (row_at cells c.args.columns l.at) ++ ending c.args.t)) =
     λ e. let l = c.loop-n in
     let a = c.args in
     c.check_record-r.ensures.length_value e
@@ -146,7 +146,7 @@ loop-n-preserved c =
     let a = c.args in
     c.check_record-r.ensures.verdict_value
     ∙ ap (row_check a.t (eqb l.n 0) l.size) (part_cells Contents a.content.now a.starts.now a.ends.now a.kinds.now l.at a.columns) in
-    let length_at : (let l = c.loop-n in c.check_record-r.result.verdict ≡ Sound → c.check_record-r.result.length ≡ length (record_text (into c.args.t) (eqb l.n 0) (row_at cells c.args.columns l.at) ++ ending c.args.t)) =
+    let length_at : (let l = c.loop-n in c.check_record-r.result.verdict ≡ Ok tt → c.check_record-r.result.length ≡ length (record_text (into c.args.t) (eqb l.n 0) (row_at cells c.args.columns l.at) ++ ending c.args.t)) =
     λ e. let l = c.loop-n in
     let a = c.args in
     c.check_record-r.ensures.length_value e
