@@ -27,28 +27,20 @@ pub struct DecodeAnswer {
     pub kind: usize,
 }
 
-fn answer_of(d: Decoded) -> DecodeAnswer
+fn answer_of(d: Result<Decoded, Report>) -> DecodeAnswer
     ensures { struct_answer result ≡ given_answer d }
 {
-    let Decoded::Content { size, kind } = d else {
-        // A result without content is a refusal: the inner `else` is proved never to run.
-        let Decoded::Refused(e) = d else {
-            return DecodeAnswer {
-                report: codes::call_report(codes::WRONG_CALL),
-                length: 0,
-                kind: 0,
-            };
-        };
-        return DecodeAnswer {
+    match d {
+        Ok(Decoded { size, kind }) => DecodeAnswer {
+            report: codes::call_report(codes::ACCEPTED),
+            length: size,
+            kind: u8::from(kind) as usize,
+        },
+        Err(e) => DecodeAnswer {
             report: e,
             length: 0,
             kind: 0,
-        };
-    };
-    DecodeAnswer {
-        report: codes::call_report(codes::ACCEPTED),
-        length: size,
-        kind: u8::from(kind) as usize,
+        },
     }
 }
 

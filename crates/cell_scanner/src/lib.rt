@@ -97,28 +97,22 @@ pub enum CellEnd {
 }
 
 // The byte beside the quote at which a run ends in this state, if ordinary bytes leave the state unchanged.
-#[derive(Clone, Copy)]
-pub enum RunStop {
-    At(u8),
-    Fallback,
-}
-
-fn text_stop(t: Char, q: u8) -> RunStop
+fn text_stop(t: Char, q: u8) -> Option<u8>
     ensures { result ≡ text_stop t q }
 {
     match t {
-        Char::Whole => RunStop::At(q),
-        Char::Within(_) => RunStop::Fallback,
+        Char::Whole => Some(q),
+        Char::Within(_) => None,
     }
 }
 
-pub fn run_stop(d: Dialect, c: Cell) -> RunStop
+pub fn run_stop(d: Dialect, c: Cell) -> Option<u8>
     ensures { result ≡ run_stop d c }
 {
     match c {
         Cell::Quoted(t) => text_stop(t, 0x5C),
         Cell::Plain(t) => text_stop(t, cell_lexer::delimiter_of(d)),
-        _ => RunStop::Fallback,
+        _ => None,
     }
 }
 
@@ -128,8 +122,8 @@ fn cell_run(d: Dialect, c: Cell, s: &[u8], at: usize, stop: usize) -> usize
     ensures { result ≡ at + run_length d (run_stop d c) (slice s.now at stop) }
 {
     match run_stop(d, c) {
-        RunStop::At(q) => run(s, at, stop, cell_lexer::quote_of(d), q),
-        RunStop::Fallback => at,
+        Some(q) => run(s, at, stop, cell_lexer::quote_of(d), q),
+        None => at,
     }
 }
 

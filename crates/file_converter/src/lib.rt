@@ -19,20 +19,11 @@ ghost use Rattle.file_converter.specs.Converts.{answer_in, MeasureSound, Accepts
 use cell_decoder::source::Source;
 use codes::{MAX_COLUMNS, TextAnswer};
 use file_cursor::fast::FastNext;
-use file_cursor::{Aim, NextRecord};
 use model::{Dialect, Report};
 use record_writer::record;
 
-// The result of the first pass.
-#[derive(Clone, Copy)]
-pub enum Measurement {
-    // The length of the text.
-    Accepted { length: usize },
-    Refused(Report),
-}
-
 // All records of a file, checked for the target and measured.
-fn measure(d: Dialect, t: Dialect, file: &[u8]) -> Measurement
+fn measure(d: Dialect, t: Dialect, file: &[u8]) -> Result<usize, Report>
     ensures { MeasureSound d t file.now result }
 {
     let mut starts = [0usize; MAX_COLUMNS];
@@ -43,7 +34,7 @@ fn measure(d: Dialect, t: Dialect, file: &[u8]) -> Measurement
         let state = cursor.state;
         match file_cursor::fast::next_data_record(
             d,
-            Aim::Into(t),
+            Some(t),
             file,
             cursor.offset,
             state,
@@ -54,28 +45,31 @@ fn measure(d: Dialect, t: Dialect, file: &[u8]) -> Measurement
             &mut ends,
             &mut kinds,
         ) {
-            FastNext::Record(v, _) => {
+            Some(
+                FastNext {
+                    cursor: v,
+                    clean: _,
+                },
+            ) => {
                 cursor = v;
             }
-            FastNext::Fallback => match file_cursor::next_record(
+            None => match file_cursor::next_record(
                 d,
-                Aim::Into(t),
+                Some(t),
                 file,
                 cursor,
                 &mut starts,
                 &mut ends,
                 &mut kinds,
             ) {
-                NextRecord::Record(v) => {
+                Ok(Some(v)) => {
                     cursor = v;
                 }
-                NextRecord::End => {
-                    return Measurement::Accepted {
-                        length: cursor.written,
-                    };
+                Ok(None) => {
+                    return Ok(cursor.written);
                 }
-                NextRecord::Refused(e) => {
-                    return Measurement::Refused(e);
+                Err(e) => {
+                    return Err(e);
                 }
             },
         }
@@ -127,7 +121,7 @@ fn write_records(d: Dialect, t: Dialect, file: &[u8], room: &mut [u8])
         let state = cursor.state;
         match file_cursor::fast::next_data_record(
             d,
-            Aim::Reading,
+            None,
             file,
             cursor.offset,
             state,
@@ -138,7 +132,7 @@ fn write_records(d: Dialect, t: Dialect, file: &[u8], room: &mut [u8])
             &mut ends,
             &mut kinds,
         ) {
-            FastNext::Record(v, clean) => {
+            Some(FastNext { cursor: v, clean }) => {
                 let cells = v.columns;
                 at = record_writer::line::write_data(
                     d,
@@ -153,16 +147,16 @@ fn write_records(d: Dialect, t: Dialect, file: &[u8], room: &mut [u8])
                 );
                 cursor = v;
             }
-            FastNext::Fallback => match file_cursor::next_record(
+            None => match file_cursor::next_record(
                 d,
-                Aim::Reading,
+                None,
                 file,
                 cursor,
                 &mut starts,
                 &mut ends,
                 &mut kinds,
             ) {
-                NextRecord::Record(v) => {
+                Ok(Some(v)) => {
                     let cells = v.columns;
                     at = write_record(
                         d,
@@ -177,10 +171,10 @@ fn write_records(d: Dialect, t: Dialect, file: &[u8], room: &mut [u8])
                     );
                     cursor = v;
                 }
-                NextRecord::End => {
+                Ok(None) => {
                     return;
                 }
-                NextRecord::Refused(_) => {
+                Err(_) => {
                     return;
                 }
             },
@@ -194,8 +188,8 @@ pub fn convert_in(d: Dialect, t: Dialect, file: &[u8], room: &mut [u8]) -> TextA
     ensures room_after { room.new ≡ over (answer_in d t file.now (length room.old)).text room.old }
 {
     match measure(d, t, file) {
-        Measurement::Refused(e) => codes::refusal(e),
-        Measurement::Accepted { length } => {
+        Err(e) => codes::refusal(e),
+        Ok(length) => {
             if room.len() < length {
                 return codes::refusal(codes::call_report(codes::NO_ROOM));
             }

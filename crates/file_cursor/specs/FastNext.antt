@@ -6,21 +6,19 @@ use Rattle.model.specs.rules.Base.{Bytes, is_empty}
 use Rattle.model.specs.rules.Text.{Value}
 use Rattle.model.specs.rules.Records.{Rec}
 use Rattle.cell_fast.specs.Ends.{CleanIn}
-use Rattle.file_cursor.specs.declared.Aim.{Aim}
 use Rattle.file_cursor.specs.declared.Cursor.{Cursor}
-use Rattle.file_cursor.specs.declared.NextRecord.TheVariants as outcome
 use Rattle.file_cursor.specs.NextRecord.{RecordChecked, Next}
 use Rattle.file_cursor.specs.declared.fast.FastNext.{FastNext}
-use Rattle.file_cursor.specs.declared.fast.FastNext.TheVariants.{Record, Fallback}
+use Rattle.std.specs.Prelude.{Option, None, Some, Ok}
 
 -- a complete record with these cells, after the records rs
-pub data FastCheckSound (d : Dialect) (aim : Aim) (rs : List Rec) (vs : List Value) (start : ℕ) (f : FileState) (o : ℕ) (clean : Bool) : FastNext → Type 0 where
-  sound : {v : Cursor} → RecordChecked d aim rs vs start f o (outcome.Record v) → FastCheckSound d aim rs vs start f o clean (Record v clean)
-  unsure : FastCheckSound d aim rs vs start f o clean Fallback
+pub data FastCheckSound (d : Dialect) (target : Option Dialect) (rs : List Rec) (vs : List Value) (start : ℕ) (f : FileState) (o : ℕ) (clean : Bool) : Option FastNext → Type 0 where
+  sound : {v : Cursor} → RecordChecked d target rs vs start f o (Ok (Some v)) → FastCheckSound d target rs vs start f o clean (Some (record { cursor = v; clean = clean }))
+  unsure : FastCheckSound d target rs vs start f o clean None
 
 -- the record from i on, after the records rs
-pub data FastNextSound (d : Dialect) (aim : Aim) (file : Bytes) (rs : List Rec) (f : FileState) (i : ℕ) (starts ends kinds : List ℕ) : FastNext → Type 0 where
+pub data FastNextSound (d : Dialect) (target : Option Dialect) (file : Bytes) (rs : List Rec) (f : FileState) (i : ℕ) (starts ends kinds : List ℕ) : Option FastNext → Type 0 where
   a_record :
-      {v : Cursor} {clean : Bool} → is_empty rs ≡ false → Next d aim file rs f i starts ends kinds v →
-      (clean ≡ true → CleanIn d file (take v.columns starts) (take v.columns ends)) → FastNextSound d aim file rs f i starts ends kinds (Record v clean)
-  nothing : FastNextSound d aim file rs f i starts ends kinds Fallback
+      {v : Cursor} {clean : Bool} → is_empty rs ≡ false → Next d target file rs f i starts ends kinds v →
+      (clean ≡ true → CleanIn d file (take v.columns starts) (take v.columns ends)) → FastNextSound d target file rs f i starts ends kinds (Some (record { cursor = v; clean = clean }))
+  nothing : FastNextSound d target file rs f i starts ends kinds None

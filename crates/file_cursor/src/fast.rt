@@ -13,49 +13,39 @@ ghost use Rattle.file_cursor.specs.NextRecord.{cursor_of, After, CheckSound};
 ghost use Rattle.record_fast.specs.CellLists.{Long, SameLengths, Shows};
 ghost use Rattle.file_cursor.specs.FastNext.{FastCheckSound, FastNextSound};
 
-use crate::{Aim, Cursor};
+use crate::Cursor;
 use cell_decoder::source::Source;
 use codes::{MAX_COLUMNS, MAX_FILE};
-use model::{Dialect, FileState};
-use record_fast::FastScan;
-use record_target::TargetCheck;
+use model::{Dialect, Fault, FileState};
+use record_fast::FastRecord;
 
-// The order of the variants is measured: with `Fallback` last, conversions of short cells take up to 0.8% more instructions.
+// The place after the record; and whether each of its cells is a text whose content is in it verbatim.
 #[derive(Clone, Copy)]
-pub enum FastNext {
-    Fallback,
-    // The place after the record; and whether each of its cells is a text whose content is in it verbatim.
-    Record(Cursor, bool),
+pub struct FastNext {
+    pub cursor: Cursor,
+    pub clean: bool,
 }
 
 // The source's checks of a data record after the cursor, and then the target's.
 fn check_record(
     d: Dialect,
-    aim: Aim,
+    target: Option<Dialect>,
     file: &[u8],
     starts: &[usize],
     ends: &[usize],
     kinds: &[u8],
     cursor: Cursor,
     clean: bool,
-) -> TargetCheck
+) -> Result<usize, Fault>
     requires cells { Cells (File d) file.now starts.now ends.now kinds.now }
     requires clean_in { clean ≡ true → CleanIn d file.now starts.now ends.now }
     requires fact { (cursor.done ≡ 0 → ⊥) × (cursor.written ≤ MAXFILE) }
-    ensures { CheckSound d aim cursor (cells_in (File d) file.now starts.now ends.now kinds.now) result }
+    ensures { CheckSound d target cursor (cells_in (File d) file.now starts.now ends.now kinds.now) result }
 {
-    if let Err(e) = record_check::data(cursor.columns, starts.len()) {
-        return TargetCheck {
-            verdict: Err(e),
-            length: 0,
-        };
-    }
-    match aim {
-        Aim::Reading => TargetCheck {
-            verdict: Ok(()),
-            length: 0,
-        },
-        Aim::Into(t) => record_target::check_target(
+    record_check::data(cursor.columns, starts.len())?;
+    match target {
+        None => Ok(0),
+        Some(t) => record_target::check_target(
             Source::File(d),
             t,
             file,
@@ -73,7 +63,7 @@ fn check_record(
 // offset after it.
 fn finish_record(
     d: Dialect,
-    aim: Aim,
+    target: Option<Dialect>,
     file: &[u8],
     starts: &[usize],
     ends: &[usize],
@@ -83,47 +73,44 @@ fn finish_record(
     state: FileState,
     next: usize,
     clean: bool,
-) -> FastNext
+) -> Option<FastNext>
     requires long { Long starts.now ends.now kinds.now }
     requires cells { cells ≤ MAXCOLUMNS → Cells (File d) file.now (take cells starts.now) (take cells ends.now) (take cells kinds.now) }
     requires clean_in { cells ≤ MAXCOLUMNS → clean ≡ true → CleanIn d file.now (take cells starts.now) (take cells ends.now) }
     requires fact { (cursor.done ≡ 0 → ⊥) × (cursor.done ≤ MAXFILE) × (cursor.written ≤ MAXFILE) }
-    ensures { (rs : List Rec) (vs : List Value) (start : ℕ) → After aim cursor rs → Shows d file.now vs cells starts.now ends.now kinds.now → FastCheckSound d aim rs vs start state next clean result }
+    ensures { (rs : List Rec) (vs : List Value) (start : ℕ) → After target cursor rs → Shows d file.now vs cells starts.now ends.now kinds.now → FastCheckSound d target rs vs start state next clean result }
 {
     if MAX_COLUMNS < cells {
-        return FastNext::Fallback;
+        return None;
     }
-    let r = check_record(
+    let length = check_record(
         d,
-        aim,
+        target,
         file,
         &starts[..cells],
         &ends[..cells],
         &kinds[..cells],
         cursor,
         clean,
-    );
-    let v = r.verdict;
-    match v {
-        Err(_) => FastNext::Fallback,
-        Ok(()) => FastNext::Record(
-            Cursor {
-                done: cursor.done + 1,
-                columns: cells,
-                written: cursor.written + r.length,
-                offset: next,
-                state,
-            },
-            clean,
-        ),
-    }
+    )
+    .ok()?;
+    Some(FastNext {
+        cursor: Cursor {
+            done: cursor.done + 1,
+            columns: cells,
+            written: cursor.written + length,
+            offset: next,
+            state,
+        },
+        clean,
+    })
 }
 
 // The next record from a cursor with these fields. They are parameters of their own, since the cursor by value would be copied before the
 // scan: 2.3% more instructions where CSV+ has short cells.
 pub fn next_data_record(
     d: Dialect,
-    aim: Aim,
+    target: Option<Dialect>,
     file: &[u8],
     from: usize,
     state: FileState,
@@ -133,17 +120,23 @@ pub fn next_data_record(
     starts: &mut [usize],
     ends: &mut [usize],
     kinds: &mut [u8],
-) -> FastNext
+) -> Option<FastNext>
     requires from_in_bounds { (from ≤ length file.now) × (from ≤ MAXFILE) × (outer state ≡ true) }
     requires done_le_from { (done ≤ from) × (written ≤ MAXFILE) }
     requires long { Long starts.old ends.old kinds.old }
-    ensures fast_next_sound { (rs : List Rec) → After aim (cursor_of done columns written from state) rs → FastNextSound d aim file.now rs state from starts.new ends.new kinds.new result }
+    ensures fast_next_sound { (rs : List Rec) → After target (cursor_of done columns written from state) rs → FastNextSound d target file.now rs state from starts.new ends.new kinds.new result }
     ensures same_lengths { SameLengths starts.old ends.old kinds.old starts.new ends.new kinds.new }
 {
     if done == 0 {
-        return FastNext::Fallback;
+        return None;
     }
-    match record_fast::scan(
+    let FastRecord {
+        start: _,
+        cells,
+        state: f,
+        next,
+        clean,
+    } = record_fast::scan(
         d,
         file,
         from,
@@ -154,32 +147,15 @@ pub fn next_data_record(
         starts,
         ends,
         kinds,
-    ) {
-        FastScan::Fallback => FastNext::Fallback,
-        FastScan::Record {
-            start: _,
-            cells,
-            state: f,
-            next,
-            clean,
-        } => finish_record(
-            d,
-            aim,
-            file,
-            starts,
-            ends,
-            kinds,
-            Cursor {
-                done,
-                columns,
-                written,
-                offset: from,
-                state,
-            },
-            cells,
-            f,
-            next,
-            clean,
-        ),
-    }
+    )?;
+    let cursor = Cursor {
+        done,
+        columns,
+        written,
+        offset: from,
+        state,
+    };
+    finish_record(
+        d, target, file, starts, ends, kinds, cursor, cells, f, next, clean,
+    )
 }

@@ -19,19 +19,9 @@ use crate::scan::FileScan;
 use cell_decoder::source::Source;
 use codes::MAX_COLUMNS;
 use model::{Dialect, Fault, FileState, Report};
-use record_target::TargetCheck;
 
 pub mod fast;
 pub mod scan;
-
-// What the records are read for.
-#[derive(Clone, Copy)]
-pub enum Aim {
-    // Nothing more.
-    Reading,
-    // Conversion into this dialect.
-    Into(Dialect),
-}
 
 // A place between two records of a file, and what was read before it: how many records, how many cells each of them has, and how long
 // their text in the target is; 0 where there is no target. The order of the fields is measured: with the state first, a conversion of
@@ -43,14 +33,6 @@ pub struct Cursor {
     pub written: usize,
     pub offset: usize,
     pub state: FileState,
-}
-
-#[derive(Clone, Copy)]
-pub enum NextRecord {
-    // The place after the record, which has as many cells as the place has columns.
-    Record(Cursor),
-    End,
-    Refused(Report),
 }
 
 // Before the first record.
@@ -71,33 +53,25 @@ pub fn at_start() -> Cursor
 // The source's checks of the record after the cursor, and then the target's.
 fn check_record(
     d: Dialect,
-    aim: Aim,
+    target: Option<Dialect>,
     file: &[u8],
     starts: &[usize],
     ends: &[usize],
     kinds: &[u8],
     cursor: Cursor,
-) -> TargetCheck
+) -> Result<usize, Fault>
     requires cells { Cells (File d) file.now starts.now ends.now kinds.now }
     requires written_bound { cursor.written ≤ MAXFILE }
-    ensures { CheckSound d aim cursor (cells_in (File d) file.now starts.now ends.now kinds.now) result }
+    ensures { CheckSound d target cursor (cells_in (File d) file.now starts.now ends.now kinds.now) result }
 {
     let header = cursor.done == 0;
-    match aim {
-        Aim::Reading => TargetCheck {
-            verdict: record_check::check(
-                Source::File(d),
-                d,
-                file,
-                starts,
-                ends,
-                kinds,
-                header,
-                cursor.columns,
-            ),
-            length: 0,
-        },
-        Aim::Into(t) => record_target::check_record(
+    match target {
+        None => {
+            let src = Source::File(d);
+            record_check::check(src, d, file, starts, ends, kinds, header, cursor.columns)?;
+            Ok(0)
+        }
+        Some(t) => record_target::check_record(
             d,
             t,
             file,
@@ -116,7 +90,7 @@ fn check_record(
 // the offset after it.
 fn finish_record(
     d: Dialect,
-    aim: Aim,
+    target: Option<Dialect>,
     file: &[u8],
     starts: &[usize],
     ends: &[usize],
@@ -126,69 +100,59 @@ fn finish_record(
     cells: usize,
     state: FileState,
     next: usize,
-) -> NextRecord
+) -> Result<Option<Cursor>, Report>
     requires long { Long starts.now ends.now kinds.now }
     requires cells { cells ≤ MAXCOLUMNS → Cells (File d) file.now (take cells starts.now) (take cells ends.now) (take cells kinds.now) }
     requires done_bound { (cursor.done ≤ MAXFILE) × (cursor.written ≤ MAXFILE) }
-    ensures { (rs : List Rec) (vs : List Value) → After aim cursor rs → Shows d file.now vs cells starts.now ends.now kinds.now → RecordChecked d aim rs vs start state next result }
+    ensures { (rs : List Rec) (vs : List Value) → After target cursor rs → Shows d file.now vs cells starts.now ends.now kinds.now → RecordChecked d target rs vs start state next result }
 {
     if MAX_COLUMNS < cells {
-        return NextRecord::Refused(codes::record_report(
-            Fault::TooManyColumns,
-            cursor.done + 1,
-            start,
-        ));
+        return Err(codes::record_report(Fault::TooManyColumns, cursor.done + 1, start));
     }
-    let r = check_record(
+    match check_record(
         d,
-        aim,
+        target,
         file,
         &starts[..cells],
         &ends[..cells],
         &kinds[..cells],
         cursor,
-    );
-    let v = r.verdict;
-    match v {
-        Ok(()) => NextRecord::Record(Cursor {
+    ) {
+        Ok(length) => Ok(Some(Cursor {
             done: cursor.done + 1,
             columns: cells,
-            written: cursor.written + r.length,
+            written: cursor.written + length,
             offset: next,
             state,
-        }),
-        Err(e) => NextRecord::Refused(codes::record_report(
-            e,
-            cursor.done + 1,
-            start,
-        )),
+        })),
+        Err(e) => Err(codes::record_report(e, cursor.done + 1, start)),
     }
 }
 
 // The file ends here, between records.
-fn finish_file(done: usize, offset: usize) -> NextRecord
+fn finish_file(done: usize, offset: usize) -> Result<Option<Cursor>, Report>
     ensures { (rs : List Rec) → length rs ≡ done → FileEnded rs offset result }
 {
     if done == 0 {
-        return NextRecord::Refused(codes::record_report(Fault::NoRecord, 1, offset));
+        return Err(codes::record_report(Fault::NoRecord, 1, offset));
     }
-    NextRecord::End
+    Ok(None)
 }
 
 // The next record.
 pub fn next_record(
     d: Dialect,
-    aim: Aim,
+    target: Option<Dialect>,
     file: &[u8],
     cursor: Cursor,
     starts: &mut [usize],
     ends: &mut [usize],
     kinds: &mut [u8],
-) -> NextRecord
+) -> Result<Option<Cursor>, Report>
     requires offset_in_bounds { (cursor.offset ≤ length file.now) × (cursor.offset ≤ MAXFILE) × (outer cursor.state ≡ true) }
     requires done_le_offset { (cursor.done ≤ cursor.offset) × (cursor.written ≤ MAXFILE) }
     requires long { Long starts.old ends.old kinds.old }
-    ensures next_record_sound { (rs : List Rec) → After aim cursor rs → NextRecordSound d aim file.now rs cursor.state cursor.offset starts.new ends.new kinds.new result }
+    ensures next_record_sound { (rs : List Rec) → After target cursor rs → NextRecordSound d target file.now rs cursor.state cursor.offset starts.new ends.new kinds.new result }
     ensures same_lengths { SameLengths starts.old ends.old kinds.old starts.new ends.new kinds.new }
 {
     let state = cursor.state;
@@ -209,11 +173,11 @@ pub fn next_record(
             state: f,
             next,
         } => finish_record(
-            d, aim, file, starts, ends, kinds, cursor, start, cells, f, next,
+            d, target, file, starts, ends, kinds, cursor, start, cells, f, next,
         ),
         FileScan::LastRecord { start, cells } => finish_record(
             d,
-            aim,
+            target,
             file,
             starts,
             ends,
@@ -224,7 +188,7 @@ pub fn next_record(
             FileState::Begin,
             file.len(),
         ),
-        FileScan::Failed { fault, offset } => NextRecord::Refused(codes::record_report(
+        FileScan::Failed { fault, offset } => Err(codes::record_report(
             fault,
             cursor.done + 1,
             offset,

@@ -1,6 +1,7 @@
 -- The contract of a pass over the data records, in terms of reading.
 use Rattle.std.specs.Prelude.{ℕ, ◌+◌, ◌≤◌, ◌≡◌, true, false, List, [], ◌∷◌, length}
-use Rattle.std.specs.Prelude.{None}
+use Rattle.std.specs.Prelude.{None, Result, Ok, Err}
+use Rattle.model.specs.declared.Report.{Report}
 use Rattle.model.specs.declared.Dialect.{Dialect}
 use Rattle.model.specs.declared.FileState.{FileState}
 use Rattle.model.specs.declared.FileState.TheVariants.{Begin}
@@ -16,8 +17,7 @@ use Rattle.file_cursor.specs.declared.scan.FileScan.{FileScan}
 use Rattle.file_cursor.specs.declared.scan.FileScan.TheVariants.{Completed, LastRecord, Failed, End}
 use Rattle.file_reader.specs.declared.pass.DataScan.{DataScan}
 use Rattle.file_reader.specs.declared.pass.DataScan.TheVariants as next
-use Rattle.file_reader.specs.declared.pass.PassResult.{PassResult}
-use Rattle.file_reader.specs.declared.pass.PassResult.TheVariants.{Accepted, Refused}
+use Rattle.file_reader.specs.declared.pass.Counts.{Counts}
 
 -- the next event of reading, with a last record as a record that ends where the file does
 abbrev pub data_scan : (file_length : ℕ) → FileScan → DataScan
@@ -33,18 +33,18 @@ pub record Holds (room : ℕ) (vs : List Value) (starts₀ ends₀ kinds₀ star
   pub at_kinds : kinds ≡ stored_from room 0 (kinds_of vs) kinds₀
 
 -- the result of a pass after the header h; `vs` are the cells that were found
-pub data PassOutcome (h : Rec) (vs : List Value) : Progress → PassResult → Type 0 where
+pub data PassOutcome (h : Rec) (vs : List Value) : Progress → Result Counts Report → Type 0 where
   accepted :
-      (r : Read) (ds : List Rec) → r.done ≡ h ∷ ds → concat (rows ds) ≡ vs → PassOutcome h vs (going r) (Accepted (length ds) (length vs))
-  refused : (e : Fault) (r : Read) → PassOutcome h vs (stopped e r) (Refused (fault_report e r))
+      (r : Read) (ds : List Rec) → r.done ≡ h ∷ ds → concat (rows ds) ≡ vs → PassOutcome h vs (going r) (Ok (record { records = length ds; cells = length vs }))
+  refused : (e : Fault) (r : Read) → PassOutcome h vs (stopped e r) (Err (fault_report e r))
 
 -- there are no more cells than a file has bytes, and one
-abbrev pub Few : PassResult → Type 0
-Few (Accepted records cells) = cells ≤ MAXFILE + 1
-Few (Refused e) = Unit {0}
+abbrev pub Few : Result Counts Report → Type 0
+Few (Ok counts) = counts.cells ≤ MAXFILE + 1
+Few (Err e) = Unit {0}
 
 pub record PassSound (d : Dialect) (file : Bytes) (from : ℕ) (f : FileState) (columns room : ℕ) (starts₀ ends₀ kinds₀ : List ℕ)
-    (p : PassResult) (starts ends kinds : List ℕ) : Type 0 where
+    (p : Result Counts Report) (starts ends kinds : List ℕ) : Type 0 where
   pub vs : List Value
   pub lists : Holds room vs starts₀ ends₀ kinds₀ starts ends kinds
   pub outcome : (h : Rec) → length h.cells ≡ columns → PassOutcome h vs (rest_of d None file (h ∷ []) f from) p

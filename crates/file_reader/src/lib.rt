@@ -12,9 +12,8 @@ ghost use Rattle.model.specs.rules.Api.{no_answer, starts_of, ends_of, kinds_of,
 ghost use Rattle.file_reader.specs.Answers.{call_answer, reader_answer, answer_in};
 ghost use Rattle.file_reader.specs.Headers.{HeaderRead};
 
-use crate::pass::PassResult;
-use codes::{MAX_COLUMNS};
-use file_cursor::{Aim, NextRecord};
+use crate::pass::Counts;
+use codes::MAX_COLUMNS;
 use model::{Dialect, FileState, Report};
 
 pub mod pass;
@@ -60,13 +59,13 @@ fn read_records(
     ensures kinds_after { kinds.new ≡ over (kinds_of (answer_in d file.now room).cells) kinds.old }
 {
     match crate::pass::data_records(d, file, next, state, columns, 0, starts, ends, kinds) {
-        PassResult::Refused(e) => refused(e),
-        PassResult::Accepted { records, cells } => {
+        Err(e) => refused(e),
+        Ok(Counts { records, cells }) => {
             if room < columns + cells {
                 return refused(codes::call_report(codes::NO_ROOM));
             }
             file_cursor::scan::scan_next(d, file, 0, FileState::Top, room, 0, starts, ends, kinds);
-            crate::pass::data_records(
+            let _ = crate::pass::data_records(
                 d,
                 file,
                 next,
@@ -106,22 +105,22 @@ pub fn read_in(
     let mut header_kinds = [0u8; MAX_COLUMNS];
     match file_cursor::next_record(
         d,
-        Aim::Reading,
+        None,
         file,
         file_cursor::at_start(),
         &mut header_starts,
         &mut header_ends,
         &mut header_kinds,
     ) {
-        NextRecord::Record(v) => {
+        Ok(Some(v)) => {
             let state = v.state;
             read_records(
                 d, file, v.columns, state, v.offset, room, starts, ends, kinds,
             )
         }
         // A file that ends without a record is a fault.
-        NextRecord::End => refused(codes::call_report(codes::ACCEPTED)),
-        NextRecord::Refused(e) => refused(e),
+        Ok(None) => refused(codes::call_report(codes::ACCEPTED)),
+        Err(e) => refused(e),
     }
 }
 

@@ -12,13 +12,13 @@ ghost use Rattle.file_reader.specs.Passes.{PassSound, data_scan};
 use codes::MAX_FILE;
 use file_cursor::scan::FileScan;
 use model::{Dialect, Fault, FileState, Report};
-use record_fast::FastScan;
+use record_fast::FastRecord;
 
+// The numbers of records and cells up to the file's end.
 #[derive(Clone, Copy)]
-pub enum PassResult {
-    // The numbers of records and cells up to the file's end.
-    Accepted { records: usize, cells: usize },
-    Refused(Report),
+pub struct Counts {
+    pub records: usize,
+    pub cells: usize,
 }
 
 // The next data record, or what comes in its place.
@@ -65,20 +65,22 @@ fn next_data(
     match record_fast::scan(
         d, file, from, first, MAX_FILE, room, base, starts, ends, kinds,
     ) {
-        FastScan::Record {
-            start,
-            cells,
-            state,
-            next,
-            clean: _,
-        } => DataScan::Record {
+        Some(
+            FastRecord {
+                start,
+                cells,
+                state,
+                next,
+                clean: _,
+            },
+        ) => DataScan::Record {
             start,
             cells,
             state,
             next,
             last: false,
         },
-        FastScan::Fallback => match file_cursor::scan::scan_next(
+        None => match file_cursor::scan::scan_next(
             d, file, from, first, room, base, starts, ends, kinds,
         ) {
             FileScan::Completed {
@@ -117,7 +119,7 @@ pub fn data_records(
     starts: &mut [usize],
     ends: &mut [usize],
     kinds: &mut [u8],
-) -> PassResult
+) -> Result<Counts, Report>
     requires from_in_bounds { (from ≤ length file.now) × (from ≤ MAXFILE) }
     requires room_in_bounds { (room ≤ length starts.old) × (room ≤ length ends.old) × (room ≤ length kinds.old) }
     ensures { PassSound d file.now from first columns room starts.old ends.old kinds.old result starts.new ends.new kinds.new }
@@ -139,20 +141,20 @@ pub fn data_records(
                     cells += n;
                     records += 1;
                     if last {
-                        return PassResult::Accepted { records, cells };
+                        return Ok(Counts { records, cells });
                     }
                     state = f;
                     i = next;
                 }
                 Err(e) => {
-                    return PassResult::Refused(codes::record_report(e, records + 2, start));
+                    return Err(codes::record_report(e, records + 2, start));
                 }
             },
             DataScan::Failed { fault, offset } => {
-                return PassResult::Refused(codes::record_report(fault, records + 2, offset));
+                return Err(codes::record_report(fault, records + 2, offset));
             }
             DataScan::End => {
-                return PassResult::Accepted { records, cells };
+                return Ok(Counts { records, cells });
             }
         }
     }

@@ -9,7 +9,6 @@ use crate::state;
 use codes::TextAnswer;
 use piece_run::bounds;
 use piece_state::checks;
-use piece_state::checks::CallCheck;
 
 // The next bytes of the file.
 pub fn piece(
@@ -34,8 +33,8 @@ pub fn piece(
         input.len(),
         out.len(),
     ) {
-        CallCheck::Refused(e) => codes::refusal(e),
-        CallCheck::Proceed(d, t) => {
+        Err(e) => codes::refusal(e),
+        Ok((d, t)) => {
             let p = state::place_in(before);
             if !bounds::is_in_bounds(p, name_ends, ends) {
                 return codes::refusal(codes::call_report(codes::WRONG_CALL));
@@ -74,8 +73,8 @@ pub fn end(
         0,
         out.len(),
     ) {
-        CallCheck::Refused(report) => codes::refusal(report),
-        CallCheck::Proceed(d, t) => {
+        Err(e) => codes::refusal(e),
+        Ok((d, t)) => {
             let p = state::place_in(before);
             if !bounds::is_in_bounds(p, name_ends, ends) {
                 return codes::refusal(codes::call_report(codes::WRONG_CALL));

@@ -11,10 +11,10 @@ use Rattle.model.specs.declared.Dialect.{Dialect}
 use Rattle.model.specs.declared.Target.{Target}
 use Rattle.model.specs.declared.Fault.{Fault}
 use Rattle.model.specs.rules.Types.{CheckResult}
-use Rattle.std.specs.Prelude.{Ok, Err}
+use Rattle.std.specs.Prelude.{Result, Ok, Err}
 use Rattle.piece_state.specs.declared.place.Place.{Place}
-use Rattle.piece_record.specs.declared.RecordResult.{RecordResult}
-use Rattle.piece_record.specs.declared.RecordResult.TheVariants.{Written, Refused, Invalid}
+use Rattle.piece_record.specs.declared.RecordError.{RecordError}
+use Rattle.piece_record.specs.declared.RecordError.TheVariants.{Refused, Invalid}
 
 -- ---- spans one after another
 
@@ -43,13 +43,17 @@ fault_at d t p vs =
 abbrev pub text_at : Target → Place → List Value → Bytes
 text_at t p vs = record_text t (p.records is 0) vs ++ ending t.dialect
 
+-- the result for a complete record: where its text ends, or why it is not written
+abbrev pub RecordResult : Type 0
+RecordResult = Result ℕ RecordError
+
 -- its text is written at o, if it has no fault and there is room
 pub data FinishSound (v : CheckResult) (text : Bytes) (o : ℕ) (out out' : List ℕ) : RecordResult → Type 0 where
   is_written :
       {end : ℕ} → v ≡ Ok tt → o + length text ≤ length out → out' ≡ written out o text → end ≡ o + length text →
-      FinishSound v text o out out' (Written end)
-  is_refused : {e : Fault} → v ≡ Err e → out' ≡ out → FinishSound v text o out out' (Refused e)
-  has_no_room : v ≡ Ok tt → length out < o + length text → out' ≡ out → FinishSound v text o out out' Invalid
+      FinishSound v text o out out' (Ok end)
+  is_refused : {e : Fault} → v ≡ Err e → out' ≡ out → FinishSound v text o out out' (Err (Refused e))
+  has_no_room : v ≡ Ok tt → length out < o + length text → out' ≡ out → FinishSound v text o out out' (Err Invalid)
 
 -- the cells in the buffered bytes with these ends
 abbrev pub buffered_values : Dialect → Bytes → (ends : List ℕ) → List Value
@@ -57,7 +61,7 @@ buffered_values d bytes ends = values_in d bytes (starts_by 0 ends) ends
 
 -- the same for a record whose cells are first checked for what writing requires
 pub data CompleteSound (d : Dialect) (t : Target) (p : Place) (bytes ends : List ℕ) (o : ℕ) (out out' : List ℕ) (r : RecordResult) : Type 0 where
-  not_encoded : r ≡ Invalid → (EdFollowed (take (end_of 0 ends) bytes) → ⊥) → out' ≡ out → CompleteSound d t p bytes ends o out out' r
+  not_encoded : r ≡ Err Invalid → (EdFollowed (take (end_of 0 ends) bytes) → ⊥) → out' ≡ out → CompleteSound d t p bytes ends o out out' r
   ruled :
       FinishSound (fault_at d t p (buffered_values d bytes ends)) (text_at t p (buffered_values d bytes ends)) o out out' r →
       CompleteSound d t p bytes ends o out out' r

@@ -20,17 +20,15 @@ use model::{Dialect, Fault};
 use piece_state::cells;
 use piece_state::place::Place;
 
-// The result for a complete record.
+// Why a complete record is not written.
 #[derive(Clone, Copy)]
-pub enum RecordResult {
-    // It is written, and ends at this place.
-    Written(usize),
+pub enum RecordError {
     Refused(Fault),
     // Its cells can't be written, or its text has no room: no calls made this state.
     Invalid,
 }
 
-// A record whose cells can be written: checked, then written if there is room.
+// A record whose cells can be written: checked, then written if there is room. Returns where its text ends.
 fn finish(
     d: Dialect,
     t: Dialect,
@@ -41,37 +39,32 @@ fn finish(
     p: Place,
     out: &mut [u8],
     o: usize,
-) -> RecordResult
+) -> Result<usize, RecordError>
     requires cells { Cells (File d) s.now starts.now ends.now kinds.now }
     requires written_bound { (p.written ≤ MAXFILE) × (o ≤ length out.old) }
     ensures { FinishSound (fault_at d (into t) p (cells_in (File d) s.now starts.now ends.now kinds.now)) (text_at (into t) p (cells_in (File d) s.now starts.now ends.now kinds.now)) o out.old out.new result }
 {
     let header = p.records == 0;
     let clean = record_writer::clean::is_clean_record(d, s, starts, ends, header);
-    let r = record_target::check_record(
+    let length = record_target::check_record(
         d, t, s, starts, ends, kinds, header, clean, p.columns, p.written,
-    );
-    let v = r.verdict;
-    match v {
-        Err(e) => RecordResult::Refused(e),
-        Ok(()) => {
-            if out.len() - o < r.length {
-                return RecordResult::Invalid;
-            }
-            RecordResult::Written(record_writer::line::write_line(
-                Source::File(d),
-                t,
-                s,
-                starts,
-                ends,
-                kinds,
-                header,
-                clean,
-                out,
-                o,
-            ))
-        }
+    )
+    .map_err(RecordError::Refused)?;
+    if out.len() - o < length {
+        return Err(RecordError::Invalid);
     }
+    Ok(record_writer::line::write_line(
+        Source::File(d),
+        t,
+        s,
+        starts,
+        ends,
+        kinds,
+        header,
+        clean,
+        out,
+        o,
+    ))
 }
 
 // ---- bytes that no calls buffered
@@ -147,7 +140,7 @@ fn complete_spans(
     out: &mut [u8],
     o: usize,
     kinds: &mut [u8],
-) -> RecordResult
+) -> Result<usize, RecordError>
     requires starts_value { starts.now ≡ starts_by 0 ends.now }
     requires in_order { InOrder 0 ends.now (length bytes.now) }
     requires ends_len_bound { (length ends.now ≤ MAXCOLUMNS) × (length bytes.now ≤ MAXRECORD) × (p.written ≤ MAXFILE) × (o ≤ length out.old) }
@@ -155,7 +148,7 @@ fn complete_spans(
     ensures { CompleteSound d (into t) p bytes.now ends.now o out.old out.new result }
 {
     if !may_be_written(bytes, ends) {
-        return RecordResult::Invalid;
+        return Err(RecordError::Invalid);
     }
     let n = ends.len();
     cells::kinds_of(d, bytes, starts, ends, n, kinds);
@@ -173,7 +166,7 @@ pub fn complete(
     o: usize,
     starts: &mut [usize],
     kinds: &mut [u8],
-) -> RecordResult
+) -> Result<usize, RecordError>
     requires in_order { InOrder 0 ends.now (length bytes.now) }
     requires ends_len_bound { (length ends.now ≤ MAXCOLUMNS) × (length bytes.now ≤ MAXRECORD) × (p.written ≤ MAXFILE) × (o ≤ length out.old) }
     requires starts_len { (length starts.old ≡ MAXCOLUMNS) × (length kinds.old ≡ MAXCOLUMNS) }

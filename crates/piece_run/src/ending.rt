@@ -14,7 +14,7 @@ ghost use Rattle.piece_step.specs.Calls.{CallStart, Named, ReadyPiece, Begun, fa
 
 use codes::MAX_COLUMNS;
 use model::{Dialect, Ending, Fault};
-use piece_record::RecordResult;
+use piece_record::RecordError;
 use piece_state::place::Place;
 use piece_step::CallResult;
 
@@ -63,13 +63,13 @@ fn last_record(
         &mut starts,
         &mut kinds,
     ) {
-        RecordResult::Written(end) => CallResult {
+        Ok(end) => CallResult {
             place: p,
             report: codes::call_report(codes::ACCEPTED),
             length: end,
         },
-        RecordResult::Refused(e) => fault_at(p, e, p.start),
-        RecordResult::Invalid => CallResult {
+        Err(RecordError::Refused(e)) => fault_at(p, e, p.start),
+        Err(RecordError::Invalid) => CallResult {
             place: p,
             report: codes::call_report(codes::WRONG_CALL),
             length: 0,

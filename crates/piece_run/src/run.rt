@@ -15,7 +15,6 @@ use crate::steps::{call_result, run_steps};
 use codes::MAX_COLUMNS;
 use model::Dialect;
 use piece_state::place::Place;
-use piece_step::in_cell::InCellStep;
 use piece_step::{CallResult, PieceStep};
 
 // A piece after the header. The scratch lists are zeroed only where they are needed.
@@ -32,7 +31,7 @@ fn run_after_header(
     ensures steps_sound { (done : List Rec) (k : Buffered) → Entered d (into t) piece.now place done k out.old → (w : StepsSoFar d (into t) piece.now place done k out.old 0 place bytes.old ends.old out.old 0) → StepsSound d (into t) piece.now place done k w.done' out.old bytes.new ends.new out.new result }
     ensures length_in_bounds { result.length ≤ length out.old }
 {
-    if let InCellStep::Buffered(q) = piece_step::in_cell::step(d, piece, place, bytes, ends) {
+    if let Some(q) = piece_step::in_cell::step(d, piece, place, bytes, ends) {
         return call_result(q, codes::call_report(codes::ACCEPTED), 0);
     }
     let mut starts = [0usize; MAX_COLUMNS];

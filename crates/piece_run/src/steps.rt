@@ -9,7 +9,7 @@ ghost use Rattle.piece_run.specs.Runs.{StepsSoFar, Entered, StepsSound};
 
 use model::{Dialect, Report};
 use piece_state::place::Place;
-use piece_step::fast::FastStep;
+use piece_step::fast::Next;
 use piece_step::{CallResult, PieceStep};
 
 // The result of a call, as one value.
@@ -62,13 +62,13 @@ pub fn run_steps(
         match piece_step::fast::data_record(
             d, t, piece, n, i, least, p, out, o, starts, stops, kinds,
         ) {
-            FastStep::Next { place: q, at, end } => {
+            Some(Next { place: q, at, end }) => {
                 least = bytes_between(p.start, q.offset);
                 p = q;
                 i = at;
                 o = end;
             }
-            FastStep::Fallback => match piece_step::step(
+            None => match piece_step::step(
                 d, t, piece, n, i, p, bytes, ends, out, o, starts, stops, kinds,
             ) {
                 PieceStep::Next { place: q, at, end } => {

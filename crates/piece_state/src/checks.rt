@@ -10,14 +10,6 @@ ghost use Rattle.piece_state.specs.Sound.{buffered_in_record, in_order};
 use crate::place::Place;
 use model::{Dialect, FileState, Report};
 
-// The result of the checks before anything is read: a refusal, which may repeat an earlier fault; or the call proceeds, between these two
-// dialects.
-#[derive(Clone, Copy)]
-pub enum CallCheck {
-    Refused(Report),
-    Proceed(Dialect, Dialect),
-}
-
 // The checks of a call between two known dialects. `fault.number` is 0 until a fault is met, and `ended` is 0 until an end is accepted.
 fn check_between(
     d: Dialect,
@@ -26,25 +18,26 @@ fn check_between(
     ended: usize,
     piece: usize,
     room: usize,
-) -> CallCheck
+) -> Result<(Dialect, Dialect), Report>
     ensures { result ≡ check_between d t fault ended piece room }
 {
     if 0 < fault.number {
-        return CallCheck::Refused(fault);
+        return Err(fault);
     }
     if 0 < ended {
-        return CallCheck::Refused(codes::call_report(codes::WRONG_CALL));
+        return Err(codes::call_report(codes::WRONG_CALL));
     }
     if codes::MAX_PIECE < piece {
-        return CallCheck::Refused(codes::call_report(codes::NO_ROOM));
+        return Err(codes::call_report(codes::NO_ROOM));
     }
     if room < codes::LEAST_OUTPUT {
-        return CallCheck::Refused(codes::call_report(codes::NO_ROOM));
+        return Err(codes::call_report(codes::NO_ROOM));
     }
-    CallCheck::Proceed(d, t)
+    Ok((d, t))
 }
 
-// The four checks. Dialect numbers are saved as callers give them, in 32 bits, and are looked up at each call.
+// The four checks before anything is read: a refusal, which may repeat an earlier fault; or the call proceeds, between these two
+// dialects. Dialect numbers are saved as callers give them, in 32 bits, and are looked up at each call.
 pub fn check_call(
     source: u32,
     target: u32,
@@ -52,14 +45,14 @@ pub fn check_call(
     ended: usize,
     piece: usize,
     room: usize,
-) -> CallCheck
+) -> Result<(Dialect, Dialect), Report>
     ensures { result ≡ check_now source target fault ended piece room }
 {
     let Ok(d) = Dialect::try_from(source) else {
-        return CallCheck::Refused(codes::call_report(codes::WRONG_CALL));
+        return Err(codes::call_report(codes::WRONG_CALL));
     };
     let Ok(t) = Dialect::try_from(target) else {
-        return CallCheck::Refused(codes::call_report(codes::WRONG_CALL));
+        return Err(codes::call_report(codes::WRONG_CALL));
     };
     check_between(d, t, fault, ended, piece, room)
 }

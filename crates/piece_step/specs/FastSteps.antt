@@ -1,6 +1,6 @@
 -- The fast path over a data record that lies whole in the piece: when it applies, and that its result is that of a step.
 use Rattle.std.specs.Prelude.{ℕ, ◌+◌, ◌-◌, ◌≤◌, ◌<◌, ◌≡◌, false, List, [], ◌∷◌, ◌++◌, length, drop}
-use Rattle.std.specs.Prelude.{Some}
+use Rattle.std.specs.Prelude.{Option, None, Some}
 use Rattle.model.specs.declared.Dialect.{Dialect}
 use Rattle.model.specs.declared.Target.{Target}
 use Rattle.model.specs.declared.FileState.{FileState}
@@ -14,23 +14,24 @@ use Rattle.model.specs.rules.Report.{MAXFILE, MAXCOLUMNS}
 use Rattle.model.specs.laws.Scans.{Buffered}
 use Rattle.buffer.specs.Writes.{written}
 use Rattle.piece_state.specs.declared.place.Place.{Place}
+use Rattle.piece_step.specs.declared.fast.Next.{Next}
 use Rattle.piece_step.specs.Invariant.{read_at, StateInvariant, place_after}
 use Rattle.piece_step.specs.Steps.{InBounds}
-use Rattle.piece_step.specs.declared.fast.FastText.{FastText}
-use Rattle.piece_step.specs.declared.fast.FastText.TheVariants as put
-use Rattle.piece_step.specs.declared.fast.FastStep.{FastStep}
-use Rattle.piece_step.specs.declared.fast.FastStep.TheVariants.{Next, Fallback}
+
+-- a record was written up to `end`, and the next step begins at this place and index
+abbrev pub next_step : Place → (at end : ℕ) → Next
+next_step q at end = record { place = q; at = at; end = end }
 
 -- ---- the text of a record
 
 -- the text lies from o up to `end` in the output, if the record has no fault and there is room
-pub data FastTextSound (t : Dialect) (columns before : ℕ) (vs : List Value) (o : ℕ) (out out' : List ℕ) : FastText → Type 0 where
+pub data FastTextSound (t : Dialect) (columns before : ℕ) (vs : List Value) (o : ℕ) (out out' : List ℕ) : Option ℕ → Type 0 where
   up_to :
       {end : ℕ} → data_fault columns vs ≡ Ok tt → target_fault (into t) false before vs ≡ Ok tt →
       o + length (record_text (into t) false vs ++ ending t) ≤ length out →
       out' ≡ written out o (record_text (into t) false vs ++ ending t) → end ≡ o + length (record_text (into t) false vs ++ ending t) →
-      FastTextSound t columns before vs o out out' (put.To end)
-  no_text : out' ≡ out → FastTextSound t columns before vs o out out' put.Fallback
+      FastTextSound t columns before vs o out out' (Some end)
+  no_text : out' ≡ out → FastTextSound t columns before vs o out out' None
 
 -- ---- a step
 
@@ -56,28 +57,28 @@ pub record Between (p : Place) : Type 0 where
 
 -- the place after a record, and where its text ends; or a fallback, with nothing written
 pub data FastStepWrites (t : Dialect) (p : Place) (n next : ℕ) (f : FileState) (cells : ℕ) (vs : List Value) (o : ℕ)
-    (out out' : List ℕ) : FastStep → Type 0 where
+    (out out' : List ℕ) : Option Next → Type 0 where
   at_next :
       {end : ℕ} → cells ≤ MAXCOLUMNS → data_fault p.columns vs ≡ Ok tt → target_fault (into t) false p.written vs ≡ Ok tt →
       o + length (record_text (into t) false vs ++ ending t) ≤ length out →
       out' ≡ written out o (record_text (into t) false vs ++ ending t) → end ≡ o + length (record_text (into t) false vs ++ ending t) →
-      FastStepWrites t p n next f cells vs o out out' (Next (place_after p (length vs) (end - o) f (n + next)) next end)
-  not_found : out' ≡ out → FastStepWrites t p n next f cells vs o out out' Fallback
+      FastStepWrites t p n next f cells vs o out out' (Some (next_step (place_after p (length vs) (end - o) f (n + next)) next end))
+  not_found : out' ≡ out → FastStepWrites t p n next f cells vs o out out' None
 
 -- it stays in bounds, whatever state it began with; and a fallback writes nothing
-pub data FastStepInBounds (piece : Bytes) (n i : ℕ) (out out' : List ℕ) : FastStep → Type 0 where
+pub data FastStepInBounds (piece : Bytes) (n i : ℕ) (out out' : List ℕ) : Option Next → Type 0 where
   next_in_bounds :
       {q : Place} {at end : ℕ} → ((ends : List ℕ) → InBounds q ends) → q.offset ≡ n + at → i < at → at ≤ length piece → end ≤ length out →
-      FastStepInBounds piece n i out out' (Next q at end)
-  nothing_in_bounds : out' ≡ out → FastStepInBounds piece n i out out' Fallback
+      FastStepInBounds piece n i out out' (Some (next_step q at end))
+  nothing_in_bounds : out' ≡ out → FastStepInBounds piece n i out out' None
 
 -- what it results in, if its place represents reading after the records `done`
 pub data FastStepSound (d : Dialect) (t : Target) (piece : Bytes) (i : ℕ) (p : Place) (bytes ends : List ℕ) (done : List Rec) (k : Buffered) (o : ℕ)
-    (out out' : List ℕ) : FastStep → Type 0 where
+    (out out' : List ℕ) : Option Next → Type 0 where
   a_record :
       {q : Place} {at end : ℕ} (x : Rec) (k' : Buffered) →
       read_from d (Some t) (going (read_at d p done k)) (drop i piece) ≡ read_from d (Some t) (going (read_at d q (done ++ (x ∷ [])) k')) (drop at piece) →
       StateInvariant d t q bytes ends (done ++ (x ∷ [])) k' → out' ≡ written out o (record_text t (is_empty done) x.cells ++ ending t.dialect) →
       end ≡ o + length (record_text t (is_empty done) x.cells ++ ending t.dialect) →
-      FastStepSound d t piece i p bytes ends done k o out out' (Next q at end)
-  nothing : FastStepSound d t piece i p bytes ends done k o out out' Fallback
+      FastStepSound d t piece i p bytes ends done k o out out' (Some (next_step q at end))
+  nothing : FastStepSound d t piece i p bytes ends done k o out out' None

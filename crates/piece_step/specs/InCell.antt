@@ -1,5 +1,6 @@
 -- The fast path over a piece that lies inside one cell: when it applies, and that its result is that of a step.
 use Rattle.std.specs.Prelude.{ℕ, ◌+◌, ◌≤◌, ◌≡◌, List}
+use Rattle.std.specs.Prelude.{Option, None, Some}
 use Rattle.model.specs.declared.Dialect.{Dialect}
 use Rattle.model.specs.declared.Target.{Target}
 use Rattle.model.specs.rules.Base.{Bytes}
@@ -10,8 +11,6 @@ use Rattle.piece_state.specs.declared.place.Place.{Place}
 use Rattle.piece_step.specs.declared.PieceStep.TheVariants.{NeedInput}
 use Rattle.piece_step.specs.Invariant.{StateInvariant}
 use Rattle.piece_step.specs.Steps.{InBounds, StepSound}
-use Rattle.piece_step.specs.declared.in_cell.InCellStep.{InCellStep}
-use Rattle.piece_step.specs.declared.in_cell.InCellStep.TheVariants as told
 
 -- `size` more bytes of a cell stay within the limits
 pub record Fits (p : Place) (size : ℕ) : Type 0 where
@@ -20,10 +19,10 @@ pub record Fits (p : Place) (size : ℕ) : Type 0 where
   pub in_file : p.offset + size ≤ MAXFILE
 
 -- the place after the piece, which a step over it results in with any output; or a fallback, with nothing buffered
-pub data InCellSound (d : Dialect) (piece : Bytes) (p : Place) (bytes ends bytes' : List ℕ) : InCellStep → Type 0 where
+pub data InCellSound (d : Dialect) (piece : Bytes) (p : Place) (bytes ends bytes' : List ℕ) : Option Place → Type 0 where
   all_buffered_lem :
       {q : Place} → InBounds q ends →
       ((t : Target) (done : List Rec) (k : Buffered) (out : List ℕ) → StateInvariant d t p bytes ends done k →
       StepSound d t piece 0 p done k 0 out bytes' ends out (NeedInput q)) →
-      InCellSound d piece p bytes ends bytes' (told.Buffered q)
-  not_found : bytes' ≡ bytes → InCellSound d piece p bytes ends bytes' told.Fallback
+      InCellSound d piece p bytes ends bytes' (Some q)
+  not_found : bytes' ≡ bytes → InCellSound d piece p bytes ends bytes' None

@@ -1,6 +1,6 @@
 -- One step of the run over a piece: what it requires, that it stays in bounds from any state, and what reading results in by it.
 use Rattle.std.specs.Prelude.{ℕ, ◌+◌, ◌-◌, ◌≤◌, ◌<◌, ◌≡◌, false, List, [], ◌∷◌, ◌++◌, length, take, drop}
-use Rattle.std.specs.Prelude.{Some}
+use Rattle.std.specs.Prelude.{Some, Ok, Err}
 use Rattle.model.specs.rules.Base.{choose◌then◌else◌, ◌is◌, Bytes, is_empty}
 use Rattle.model.specs.rules.Text.{Value, record_text, ending}
 use Rattle.model.specs.rules.Report.{report, number_of, column_of, MAXFILE, MAXRECORD, MAXCOLUMNS}
@@ -13,13 +13,12 @@ use Rattle.piece_state.specs.CurrentRecord.{SpansIn, raw_cells_at}
 use Rattle.record_scanner.specs.declared.record_state.RecordState.{RecordState}
 use Rattle.piece_step.specs.Types.{Report, Dialect, Target, FileState, Fault, TooManyColumns}
 use Rattle.piece_state.specs.declared.place.Place.{Place}
-use Rattle.piece_record.specs.declared.RecordResult.{RecordResult}
-use Rattle.piece_record.specs.declared.RecordResult.TheVariants.{Written, Refused, Invalid}
+use Rattle.piece_record.specs.declared.RecordError.TheVariants.{Refused, Invalid}
 use Rattle.piece_step.specs.declared.PieceStep.{PieceStep}
 use Rattle.piece_step.specs.declared.PieceStep.TheVariants.{Next, NeedInput, Failed, BadState}
 use Rattle.piece_step.specs.Invariant.{scan_at, read_at, StateInvariant, start_from, place_after}
 use Rattle.piece_state.specs.Sound.{InOrder}
-use Rattle.piece_record.specs.Completion.{CompleteSound}
+use Rattle.piece_record.specs.Completion.{RecordResult, CompleteSound}
 
 -- ---- staying in bounds
 
@@ -58,7 +57,7 @@ pub record Lists (piece starts stops : List ℕ) (cells : ℕ) (p : Place) (byte
 -- the cells are appended to the buffered ones, and the record is checked from there; or they are too many
 pub data RecordCompleted (d : Dialect) (t : Target) (p : Place) (cs : List RawCell) (total : ℕ) (bytes ends : List ℕ) (o : ℕ)
     (out bytes' ends' out' : List ℕ) (r : RecordResult) : Type 0 where
-  too_many : MAXCOLUMNS < total → r ≡ Refused TooManyColumns → out' ≡ out → RecordCompleted d t p cs total bytes ends o out bytes' ends' out' r
+  too_many : MAXCOLUMNS < total → r ≡ Err (Refused TooManyColumns) → out' ≡ out → RecordCompleted d t p cs total bytes ends o out bytes' ends' out' r
   from_buffered :
       total ≤ MAXCOLUMNS → bytes' ≡ written bytes p.fill (buffered_bytes cs) → ends' ≡ written ends p.cells (buffered_ends p.fill cs) →
       CompleteSound d t p bytes' (take total ends') o out out' r → RecordCompleted d t p cs total bytes ends o out bytes' ends' out' r
@@ -103,15 +102,15 @@ pub record StepReady (piece : Bytes) (n i : ℕ) (p : Place) (bytes ends out : L
 
 -- the result of a step whose record is complete
 abbrev pub step_after : Place → (n i start total : ℕ) → FileState → (next o : ℕ) → RecordResult → PieceStep
-step_after p n i start total f next o (Written end) = Next (place_after p total (end - o) f (n + next)) next end
-step_after p n i start total f next o (Refused e) = Failed (report (number_of e) (p.records + 1) (column_of e) (start_from p n i start))
-step_after p n i start total f next o Invalid = BadState
+step_after p n i start total f next o (Ok end) = Next (place_after p total (end - o) f (n + next)) next end
+step_after p n i start total f next o (Err (Refused e)) = Failed (report (number_of e) (p.records + 1) (column_of e) (start_from p n i start))
+step_after p n i start total f next o (Err Invalid) = BadState
 
 -- a text that was written fits into the file
 abbrev pub Fitting : Place → (o : ℕ) → RecordResult → Type 0
-Fitting p o (Written end) = (o ≤ end) × (p.written + (end - o) ≤ MAXFILE)
-Fitting p o (Refused e) = Unit {0}
-Fitting p o Invalid = Unit {0}
+Fitting p o (Ok end) = (o ≤ end) × (p.written + (end - o) ≤ MAXFILE)
+Fitting p o (Err (Refused e)) = Unit {0}
+Fitting p o (Err Invalid) = Unit {0}
 
 -- a step stays in bounds, whatever state it began with
 pub data StepInBounds (piece : Bytes) (n i : ℕ) (ends' out : List ℕ) : PieceStep → Type 0 where

@@ -18,27 +18,21 @@ use cell_decoder::source::Source;
 use codes::{MAX_COLUMNS, MAX_FILE};
 use model::{Dialect, FileState};
 use piece_state::place::Place;
-use record_fast::FastScan;
+use record_fast::FastRecord;
 use record_writer::line;
 
-// The result of the fast path.
+// A record was written, up to `end` of the output. The next step begins at `place`, which is index `at` of the piece.
 #[derive(Clone, Copy)]
-pub enum FastStep {
-    // A record was written, up to `end` of the output. The next step begins at `place`, which is index `at` of the piece.
-    Next { place: Place, at: usize, end: usize },
-    Fallback,
+pub struct Next {
+    pub place: Place,
+    pub at: usize,
+    pub end: usize,
 }
 
 // ---- the text of a record
 
-// Where the text ends in the output.
-#[derive(Clone, Copy)]
-pub enum FastText {
-    To(usize),
-    Fallback,
-}
-
 // Checks a data record under a header of `columns` cells, after `before` bytes of output, and writes it from index o of `out` on.
+// Returns where the text ends.
 fn write_record(
     d: Dialect,
     t: Dialect,
@@ -51,25 +45,21 @@ fn write_record(
     before: usize,
     out: &mut [u8],
     o: usize,
-) -> FastText
+) -> Option<usize>
     requires cells { Cells (File d) piece.now starts.now stops.now kinds.now }
     requires clean_in { clean ≡ true → CleanIn d piece.now starts.now stops.now }
     requires before_bound { (before ≤ MAXFILE) × (o ≤ length out.old) }
     ensures { FastTextSound t columns before (cells_in (File d) piece.now starts.now stops.now kinds.now) o out.old out.new result }
 {
-    if let Err(_) = record_check::data(columns, starts.len()) {
-        return FastText::Fallback;
-    }
+    record_check::data(columns, starts.len()).ok()?;
     let src = Source::File(d);
-    let r = record_target::check_target(src, t, piece, starts, stops, kinds, false, clean, before);
-    let v = r.verdict;
-    if let Err(_) = v {
-        return FastText::Fallback;
+    let length = record_target::check_target(
+        src, t, piece, starts, stops, kinds, false, clean, before,
+    ).ok()?;
+    if out.len() - o < length {
+        return None;
     }
-    if out.len() - o < r.length {
-        return FastText::Fallback;
-    }
-    FastText::To(line::write_line(src, t, piece, starts, stops, kinds, false, clean, out, o))
+    Some(line::write_line(src, t, piece, starts, stops, kinds, false, clean, out, o))
 }
 
 // ---- a step
@@ -90,7 +80,7 @@ fn finish_record(
     p: Place,
     out: &mut [u8],
     o: usize,
-) -> FastStep
+) -> Option<Next>
     requires scratch { Scratch starts.now stops.now kinds.now }
     requires cells { cells ≤ MAXCOLUMNS → Cells (File d) piece.now (take cells starts.now) (take cells stops.now) (take cells kinds.now) }
     requires clean_in { cells ≤ MAXCOLUMNS → clean ≡ true → CleanIn d piece.now (take cells starts.now) (take cells stops.now) }
@@ -99,9 +89,9 @@ fn finish_record(
     ensures { FastStepWrites t p n next state cells (cells_in (File d) piece.now (take cells starts.now) (take cells stops.now) (take cells kinds.now)) o out.old out.new result }
 {
     if MAX_COLUMNS < cells {
-        return FastStep::Fallback;
+        return None;
     }
-    match write_record(
+    let end = write_record(
         d,
         t,
         piece,
@@ -113,24 +103,22 @@ fn finish_record(
         p.written,
         out,
         o,
-    ) {
-        FastText::Fallback => FastStep::Fallback,
-        FastText::To(end) => FastStep::Next {
-            place: Place {
-                state,
-                offset: n + next,
-                start: n + next,
-                size: 0,
-                fill: 0,
-                cells: 0,
-                columns: p.columns,
-                records: p.records + 1,
-                written: p.written + (end - o),
-            },
-            at: next,
-            end,
+    )?;
+    Some(Next {
+        place: Place {
+            state,
+            offset: n + next,
+            start: n + next,
+            size: 0,
+            fill: 0,
+            cells: 0,
+            columns: p.columns,
+            records: p.records + 1,
+            written: p.written + (end - o),
         },
-    }
+        at: next,
+        end,
+    })
 }
 
 // Whether a data record may begin here, with nothing counted of it yet.
@@ -166,20 +154,26 @@ pub fn data_record(
     starts: &mut [usize],
     stops: &mut [usize],
     kinds: &mut [u8],
-) -> FastStep
+) -> Option<Next>
     requires fast_step_ready { FastStepReady piece.now n i p out.old o }
     requires scratch { Scratch starts.old stops.old kinds.old }
     ensures fast_step_in_bounds { FastStepInBounds piece.now n i out.old out.new result }
     ensures by_index { (bytes ends : List ℕ) (done : List Rec) (k : Buffered) → StateInvariant d (into t) p bytes ends done k → FastStepSound d (into t) piece.now i p bytes ends done k o out.old out.new result }
 {
     if piece.len() - i < least {
-        return FastStep::Fallback;
+        return None;
     }
     if !is_between(p) {
-        return FastStep::Fallback;
+        return None;
     }
     let f = p.state;
-    match record_fast::scan(
+    let FastRecord {
+        start: _,
+        cells,
+        state,
+        next,
+        clean,
+    } = record_fast::scan(
         d,
         piece,
         i,
@@ -190,16 +184,8 @@ pub fn data_record(
         starts,
         stops,
         kinds,
-    ) {
-        FastScan::Fallback => FastStep::Fallback,
-        FastScan::Record {
-            start: _,
-            cells,
-            state,
-            next,
-            clean,
-        } => finish_record(
-            d, t, piece, starts, stops, kinds, cells, state, next, clean, n, p, out, o,
-        ),
-    }
+    )?;
+    finish_record(
+        d, t, piece, starts, stops, kinds, cells, state, next, clean, n, p, out, o,
+    )
 }

@@ -7,19 +7,10 @@ ghost use Rattle.swar.specs.Words.{ordinary, AllIn};
 ghost use Rattle.piece_step.specs.Steps.{InBounds};
 ghost use Rattle.piece_step.specs.InCell.{Fits, InCellSound};
 
-use cell_scanner::RunStop;
 use codes::{MAX_COLUMNS, MAX_FILE, MAX_RECORD};
 use model::{Dialect, FileState};
 use piece_state::cells;
 use piece_state::place::Place;
-
-// The result of the fast path.
-#[derive(Clone, Copy)]
-pub enum InCellStep {
-    // All bytes are buffered. The next call begins at this place.
-    Buffered(Place),
-    Fallback,
-}
 
 // Whether all bytes are 0x20 to 0x7E, and neither p nor q.
 fn all_ordinary(s: &[u8], p: u8, q: u8) -> bool
@@ -52,27 +43,25 @@ fn fits(p: Place, size: usize) -> bool
     true
 }
 
-// The step over a whole piece after the header, as `step` does it.
-pub fn step(d: Dialect, piece: &[u8], p: Place, bytes: &mut [u8], ends: &[usize]) -> InCellStep
+// The step over a whole piece after the header, as `step` does it: all bytes are buffered, and the next call begins at this place.
+pub fn step(d: Dialect, piece: &[u8], p: Place, bytes: &mut [u8], ends: &[usize]) -> Option<Place>
     requires in_bounds { InBounds p ends.now }
     requires bytes_len { (length bytes.old ≡ MAXRECORD) × (length ends.now ≡ MAXCOLUMNS) }
     ensures { InCellSound d piece.now p bytes.old ends.now bytes.new result }
 {
     if !fits(p, piece.len()) {
-        return InCellStep::Fallback;
+        return None;
     }
     let state = p.state;
     let FileState::Inside(c) = state else {
-        return InCellStep::Fallback;
+        return None;
     };
-    let RunStop::At(q) = cell_scanner::run_stop(d, c) else {
-        return InCellStep::Fallback;
-    };
+    let q = cell_scanner::run_stop(d, c)?;
     if !all_ordinary(piece, cell_lexer::quote_of(d), q) {
-        return InCellStep::Fallback;
+        return None;
     }
     let fill = cells::buffer_open(piece, bytes, p.fill);
-    InCellStep::Buffered(Place {
+    Some(Place {
         state,
         offset: p.offset + piece.len(),
         start: p.start,

@@ -19,7 +19,7 @@ ghost use Rattle.piece_step.specs.Steps.{Scratch, Lists, RecordCompleted, place_
 
 use codes::{MAX_COLUMNS, MAX_FILE};
 use model::{Dialect, Fault, FileState, Report};
-use piece_record::RecordResult;
+use piece_record::RecordError;
 use piece_state::cells;
 use piece_state::place::Place;
 use record_scanner::record_state::RecordState;
@@ -77,7 +77,7 @@ fn complete_record(
     ends: &mut [usize],
     out: &mut [u8],
     o: usize,
-) -> RecordResult
+) -> Result<usize, RecordError>
     requires scratch { Scratch starts.old stops.now kinds.old }
     requires lists { Lists piece.now starts.old stops.now cells p bytes.old ends.old }
     requires written_bound { (p.written ≤ MAXFILE) × (o ≤ length out.old) }
@@ -86,7 +86,7 @@ fn complete_record(
     let kept = p.cells;
     let total = kept + cells;
     if MAX_COLUMNS < total {
-        return RecordResult::Refused(Fault::TooManyColumns);
+        return Err(RecordError::Refused(Fault::TooManyColumns));
     }
     buffer_more(piece, starts, stops, cells, kept, p.fill, bytes, ends);
     piece_record::complete(d, t, bytes, &ends[..total], p, out, o, starts, kinds)
@@ -195,7 +195,7 @@ fn columns_with(p: Place, cells: usize) -> usize
 
 // The result of a step whose record of `total` cells is complete, by what piece_record returned.
 fn after_record(
-    r: RecordResult,
+    r: Result<usize, RecordError>,
     p: Place,
     n: usize,
     i: usize,
@@ -210,7 +210,7 @@ fn after_record(
     ensures { result ≡ step_after p n i start total state next o r }
 {
     match r {
-        RecordResult::Written(end) => PieceStep::Next {
+        Ok(end) => PieceStep::Next {
             place: Place {
                 state,
                 offset: n + next,
@@ -225,12 +225,12 @@ fn after_record(
             at: next,
             end,
         },
-        RecordResult::Refused(e) => PieceStep::Failed(codes::record_report(
+        Err(RecordError::Refused(e)) => PieceStep::Failed(codes::record_report(
             e,
             p.records + 1,
             record_start(p, n, i, start),
         )),
-        RecordResult::Invalid => PieceStep::BadState,
+        Err(RecordError::Invalid) => PieceStep::BadState,
     }
 }
 

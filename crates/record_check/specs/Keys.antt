@@ -4,7 +4,7 @@ use Rattle.model.specs.declared.Dialect.{Dialect}
 use Rattle.model.specs.declared.Dialect.TheVariants.{Csvj, Tdif, CsvPlus}
 use Rattle.model.specs.declared.Fault.{Fault}
 use Rattle.model.specs.rules.Types.{CheckResult}
-use Rattle.std.specs.Prelude.{Ok, Err}
+use Rattle.std.specs.Prelude.{Option, None, Some, Ok, Err}
 use Rattle.model.specs.rules.Base.{Bytes}
 use Rattle.model.specs.rules.Records.{lower, name_key}
 use Rattle.model.specs.rules.Report.{MAXRECORD}
@@ -12,8 +12,6 @@ use Rattle.model.specs.rules.Api.{slice}
 use Rattle.cell_decoder.specs.declared.source.Source.{Source}
 use Rattle.cell_decoder.specs.declared.source.Source.TheVariants.{File, Contents}
 use Rattle.cell_decoder.specs.Sources.{content_by}
-use Rattle.record_check.specs.declared.names.Repeat.{Repeat}
-use Rattle.record_check.specs.declared.names.Repeat.TheVariants.{NoRepeat, AtColumn}
 
 -- a byte of a name as names are compared: in TDIF upper case equals lower case (§4.10)
 abbrev pub folded : (rule : Dialect) → ℕ → ℕ
@@ -47,6 +45,6 @@ keys_before src rule s starts ends zero = []
 keys_before src rule s starts ends (suc n) = key_at src rule s (get_or starts n 0) (get_or ends n 0) ∷ keys_before src rule s starts ends n
 
 -- the check result for a repeated name, with the caller's fault
-abbrev pub repeated_as : (ℕ → Fault) → Repeat → CheckResult
-repeated_as fault NoRepeat = Ok tt
-repeated_as fault (AtColumn n) = Err (fault n)
+abbrev pub repeated_as : (ℕ → Fault) → Option ℕ → CheckResult
+repeated_as fault None = Ok tt
+repeated_as fault (Some n) = Err (fault n)

@@ -13,7 +13,6 @@ ghost use Rattle.cell_decoder.specs.Sources.{cells_in, Cells};
 ghost use Rattle.record_check.specs.Kinds.{not_text_from};
 ghost use Rattle.record_check.specs.SourceFault.{source_fault};
 
-use crate::names::Repeat;
 use cell_decoder::source;
 use cell_decoder::source::Source;
 use codes::MAX_COLUMNS;
@@ -53,12 +52,10 @@ pub fn header(
     if MAX_COLUMNS < starts.len() {
         return Err(Fault::TooManyColumns);
     }
-    if let Err(e) = first_not_text(kinds) {
-        return Err(e);
-    }
+    first_not_text(kinds)?;
     match crate::names::first_repeat(src, rule, s, starts, ends) {
-        Repeat::NoRepeat => Ok(()),
-        Repeat::AtColumn(column) => Err(Fault::RepeatedName { column }),
+        None => Ok(()),
+        Some(column) => Err(Fault::RepeatedName { column }),
     }
 }
 

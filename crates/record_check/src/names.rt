@@ -151,14 +151,7 @@ fn repeats(src: Source, rule: Dialect, s: &[u8], starts: &[usize], ends: &[usize
     }
 }
 
-// Whether a name repeats an earlier one, and the column of the first that does.
-#[derive(Clone, Copy)]
-pub enum Repeat {
-    NoRepeat,
-    AtColumn(usize),
-}
-
-// The first name that repeats an earlier one by this rule, which need not be that of the dialect in which the names are encoded. The
+// The column of the first name that repeats an earlier one by this rule, which need not be that of the dialect in which the names are encoded. The
 // caller chooses the fault: 6 by the rule of the source, 9 by that of the target (§6.6 §8.4).
 pub fn first_repeat(
     src: Source,
@@ -166,7 +159,7 @@ pub fn first_repeat(
     s: &[u8],
     starts: &[usize],
     ends: &[usize],
-) -> Repeat
+) -> Option<usize>
     requires { NamesIn src s.now starts.now ends.now }
     ensures { (fault : ℕ → Fault) (kinds : List ℕ) → length kinds ≡ length starts.now
         → repeated_as fault result ≡ repeat_fault rule fault (cells_in src s.now starts.now ends.now kinds) }
@@ -174,9 +167,9 @@ pub fn first_repeat(
     let mut n = 0;
     while n < starts.len() {
         if repeats(src, rule, s, starts, ends, n) {
-            return Repeat::AtColumn(n + 1);
+            return Some(n + 1);
         }
         n += 1;
     }
-    Repeat::NoRepeat
+    None
 }

@@ -19,20 +19,15 @@ use codes::MAX_RECORD;
 use model::{Dialect, FileState};
 use record_scanner::store;
 
-// The result of the fast path.
+// A complete record: its start, the number of its cells, the file's state after it, the next offset, and whether each cell is verbatim: a
+// text whose content is its bytes.
 #[derive(Clone, Copy)]
-pub enum FastScan {
-    // The record is complete: its start, the number of its cells, the file's state after it, the next offset, and whether each cell is
-    // verbatim: a text whose content is its bytes.
-    Record {
-        start: usize,
-        cells: usize,
-        state: FileState,
-        next: usize,
-        clean: bool,
-    },
-    // Its first cells may be in the lists.
-    Fallback,
+pub struct FastRecord {
+    pub start: usize,
+    pub cells: usize,
+    pub state: FileState,
+    pub next: usize,
+    pub clean: bool,
 }
 
 // ---- the start of a record
@@ -65,41 +60,34 @@ fn record_start(first: FileState, part: &[u8], from: usize) -> usize
 
 // ---- the end of a record
 
-// The ending after the last cell of a record, with the file's state and the offset after it, or fallback.
-#[derive(Clone, Copy)]
-pub enum RecordEnd {
-    After(FileState, usize),
-    Fallback,
-}
-
 // CR and LF.
-fn crlf_end(part: &[u8], e: usize, stop: usize) -> RecordEnd
+fn crlf_end(part: &[u8], e: usize, stop: usize) -> Option<(FileState, usize)>
     requires { (e < stop) × (stop ≤ length part.now) }
     ensures { (d : Dialect) → after_cell d true (get_or part.now e 0) ≡ Ok (Cr, Tail true) → RecordEndSound d part.now e stop result }
 {
     if stop - e < 2 {
-        return RecordEnd::Fallback;
+        return None;
     }
     if part[e + 1] != 0x0A {
-        return RecordEnd::Fallback;
+        return None;
     }
-    RecordEnd::After(FileState::Begin, e + 2)
+    Some((FileState::Begin, e + 2))
 }
 
-fn record_end_at(d: Dialect, part: &[u8], e: usize, stop: usize) -> RecordEnd
+fn record_end_at(d: Dialect, part: &[u8], e: usize, stop: usize) -> Option<(FileState, usize)>
     requires { (e < stop) × (stop ≤ length part.now) }
     ensures { RecordEndSound d part.now e stop result }
 {
     let b = part[e];
     if b == 0x0A {
-        return RecordEnd::After(FileState::Begin, e + 1);
+        return Some((FileState::Begin, e + 1));
     }
     if b != 0x0D {
-        return RecordEnd::Fallback;
+        return None;
     }
     match d {
         Dialect::Csvj => crlf_end(part, e, stop),
-        Dialect::Tdif => RecordEnd::After(FileState::Ended, e + 1),
+        Dialect::Tdif => Some((FileState::Ended, e + 1)),
         Dialect::CsvPlus(_) => crlf_end(part, e, stop),
     }
 }
@@ -128,7 +116,7 @@ pub fn scan(
     starts: &mut [usize],
     ends: &mut [usize],
     kinds: &mut [u8],
-) -> FastScan
+) -> Option<FastRecord>
     requires from_in_bounds { (from ≤ length part.now) × (from ≤ limit) × (base ≤ from) × (limit ≤ MAXFILE) }
     requires room_in_bounds { (room ≤ length starts.old) × (room ≤ length ends.old) × (room ≤ length kinds.old) }
     ensures { FastScanSound d limit part.now from first room base starts.old ends.old kinds.old starts.new ends.new kinds.new result }
@@ -136,7 +124,7 @@ pub fn scan(
     let start = record_start(first, part, from);
     let most = part.len().min(limit);
     if most <= start {
-        return FastScan::Fallback;
+        return None;
     }
     let stop = most.min(start + MAX_RECORD);
     let p = cell_lexer::delimiter_of(d);
@@ -148,29 +136,23 @@ pub fn scan(
         let x = cell_fast::cell_end(d, p, q, part, at, stop);
         let e = x.at;
         if stop <= e {
-            return FastScan::Fallback;
+            return None;
         }
         clean = both(clean, x.clean);
         if part[e] != p {
-            match record_end_at(d, part, e, stop) {
-                RecordEnd::Fallback => {
-                    return FastScan::Fallback;
-                }
-                RecordEnd::After(state, next) => {
-                    store::store_cell(true, d, part, at, e, room, base + n, starts, ends, kinds);
-                    return FastScan::Record {
-                        start,
-                        cells: n + 1,
-                        state,
-                        next,
-                        clean,
-                    };
-                }
-            }
+            let (state, next) = record_end_at(d, part, e, stop)?;
+            store::store_cell(true, d, part, at, e, room, base + n, starts, ends, kinds);
+            return Some(FastRecord {
+                start,
+                cells: n + 1,
+                state,
+                next,
+                clean,
+            });
         }
         store::store_cell(true, d, part, at, e, room, base + n, starts, ends, kinds);
         n += 1;
         at = e + 1;
     }
-    FastScan::Fallback
+    None
 }

@@ -7,7 +7,6 @@
 #![tactic(auto)]
 
 ghost use Rattle.std.specs.Prelude.{◌≡◌, not, ◌&&◌, List, ◌++◌, ℕ, ◌+◌, ◌≤◌, length, true, false};
-ghost use Rattle.std.specs.Prelude.{Ok, Err};
 ghost use Rattle.model.specs.rules.Base.{Bytes, is_empty};
 ghost use Rattle.model.specs.rules.Dialect.{is_csvj, into};
 ghost use Rattle.model.specs.rules.Text.{Value, record_text, ending};
@@ -19,38 +18,14 @@ ghost use Rattle.cell_decoder.specs.Sources.{cells_in, Cells};
 ghost use Rattle.record_check.specs.Keys.{NamesIn};
 ghost use Rattle.record_check.specs.SourceFault.{source_fault};
 ghost use Rattle.record_writer.specs.CleanRecord.{CleanRecord};
-ghost use Rattle.record_target.specs.Sized.{Sized};
+ghost use Rattle.core.specs.Result.{result_and};
+ghost use Rattle.record_target.specs.Sized.{length_fault};
 
 use cell_decoder::source::Source;
 use codes::{MAX_FILE, MAX_RECORD};
-use model::{Dialect, Fault, Report};
-use record_check::names::Repeat;
+use model::{Dialect, Fault};
 use record_writer::record::RecordText;
 use record_writer::{line, record};
-
-#[derive(Clone, Copy)]
-pub struct TargetCheck {
-    pub verdict: Result<(), Fault>,
-    // Where there is no fault, how long the record's text is with its ending.
-    pub length: usize,
-}
-
-// The records of a file or a table, checked and measured.
-#[derive(Clone, Copy)]
-pub enum Measurement {
-    // How long their text is.
-    Accepted { length: usize },
-    Refused(Report),
-}
-
-fn refused(fault: Fault) -> TargetCheck
-    ensures { result.verdict ≡ Err fault }
-{
-    TargetCheck {
-        verdict: Err(fault),
-        length: 0,
-    }
-}
 
 // ---- cells
 
@@ -123,8 +98,8 @@ fn name_clash(
         return Ok(());
     }
     match record_check::names::first_repeat(src, t, s, starts, ends) {
-        Repeat::NoRepeat => Ok(()),
-        Repeat::AtColumn(column) => Err(Fault::Clash { column }),
+        None => Ok(()),
+        Some(column) => Err(Fault::Clash { column }),
     }
 }
 
@@ -140,21 +115,18 @@ fn with_ending(t: Dialect, end: usize) -> usize
 }
 
 // The checks of a text's length, measured without its ending, after `written` bytes of output.
-fn check_size(t: Dialect, end: usize, written: usize) -> TargetCheck
+fn check_size(t: Dialect, end: usize, written: usize) -> Result<usize, Fault>
     requires { written ≤ MAXFILE }
-    ensures { (text : Bytes) → end ≡ measure (length text) → Sized t written text result.verdict result.length }
+    ensures { (text : Bytes) → end ≡ measure (length text) → result ≡ result_and (length_fault t written text) (Ok (length (text ++ ending t))) }
 {
     if MAX_RECORD < end {
-        return refused(Fault::TextTooLong);
+        return Err(Fault::TextTooLong);
     }
     let length = with_ending(t, end);
     if MAX_FILE - written < length {
-        return refused(Fault::OutputTooLong);
+        return Err(Fault::OutputTooLong);
     }
-    TargetCheck {
-        verdict: Ok(()),
-        length,
-    }
+    Ok(length)
 }
 
 // ---- records
@@ -171,26 +143,20 @@ pub fn check_target(
     header: bool,
     clean: bool,
     written: usize,
-) -> TargetCheck
+) -> Result<usize, Fault>
     requires cells { Cells src s.now starts.now ends.now kinds.now }
     requires clean_record { clean ≡ true → CleanRecord s.now starts.now ends.now src header }
     requires written_bound { written ≤ MAXFILE }
-    ensures verdict_value { result.verdict ≡ target_fault (into t) header written
-        (cells_in src s.now starts.now ends.now kinds.now) }
-    ensures length_value { result.verdict ≡ Ok tt → result.length ≡ length (record_text (into t) header
-        (cells_in src s.now starts.now ends.now kinds.now) ++ ending t) }
+    ensures { result ≡ result_and
+        (target_fault (into t) header written (cells_in src s.now starts.now ends.now kinds.now))
+        (Ok (length (record_text (into t) header (cells_in src s.now starts.now ends.now kinds.now) ++ ending t))) }
 {
     if lacks_cells(t, header, starts.len()) {
-        return refused(Fault::NoCells);
+        return Err(Fault::NoCells);
     }
     let x = measure(src, t, s, starts, ends, kinds, header, clean);
-    let carries = x.carries;
-    if let Err(e) = carries {
-        return refused(e);
-    }
-    if let Err(e) = name_clash(src, t, s, starts, ends, header) {
-        return refused(e);
-    }
+    x.carries?;
+    name_clash(src, t, s, starts, ends, header)?;
     check_size(t, x.end, written)
 }
 
@@ -208,22 +174,16 @@ pub fn check_record(
     clean: bool,
     columns: usize,
     written: usize,
-) -> TargetCheck
+) -> Result<usize, Fault>
     requires cells { Cells (File d) s.now starts.now ends.now kinds.now }
     requires clean_record { clean ≡ true → CleanRecord s.now starts.now ends.now (File d) header }
     requires written_bound { written ≤ MAXFILE }
-    ensures verdict_value { result.verdict ≡ (
-        source_fault d header columns (cells_in (File d) s.now starts.now ends.now kinds.now)
-        or_else target_fault (into t) header written
-        (cells_in (File d) s.now starts.now ends.now kinds.now)) }
-    ensures length_value { result.verdict ≡ Ok tt → result.length ≡ length (record_text (into t) header
-        (cells_in (File d) s.now starts.now ends.now kinds.now) ++ ending t) }
+    ensures { result ≡ result_and
+        (source_fault d header columns (cells_in (File d) s.now starts.now ends.now kinds.now)
+        or_else target_fault (into t) header written (cells_in (File d) s.now starts.now ends.now kinds.now))
+        (Ok (length (record_text (into t) header (cells_in (File d) s.now starts.now ends.now kinds.now) ++ ending t))) }
 {
     let src = Source::File(d);
-    if let Err(e) = record_check::check(
-        src, d, s, starts, ends, kinds, header, columns,
-    ) {
-        return refused(e);
-    }
+    record_check::check(src, d, s, starts, ends, kinds, header, columns)?;
     check_target(src, t, s, starts, ends, kinds, header, clean, written)
 }

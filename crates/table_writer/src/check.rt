@@ -38,10 +38,12 @@ fn is_number(s: &[u8]) -> bool
     }
     match validate::validate_cell(Dialect::Csvj, s) {
         Ok(()) => true,
-        Err(CellFault {
-            fault: _,
-            offset: _,
-        }) => false,
+        Err(
+            CellFault {
+                fault: _,
+                offset: _,
+            },
+        ) => false,
     }
 }
 

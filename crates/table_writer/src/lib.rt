@@ -17,9 +17,8 @@ ghost use Rattle.table_writer.specs.TableParts.{given};
 ghost use Rattle.table_writer.specs.Rows.{rows_given};
 ghost use Rattle.table_writer.specs.Answered.{table_written, writer_in};
 
-use codes::{TextAnswer};
+use codes::TextAnswer;
 use model::Dialect;
-use record_target::Measurement;
 
 pub mod check;
 pub mod content;
@@ -77,10 +76,10 @@ fn write_table(
         (length room.old)).text room.old }
 {
     match crate::records::measure(t, content, starts, ends, kinds, columns, records) {
-        Measurement::Accepted { length } => write_if_fits(
+        Ok(length) => write_if_fits(
             t, content, starts, ends, kinds, columns, records, length, room,
         ),
-        Measurement::Refused(e) => codes::refusal(e),
+        Err(e) => codes::refusal(e),
     }
 }
 
@@ -128,9 +127,7 @@ pub fn write(
         room.old }
 {
     match Dialect::try_from(dialect) {
-        Ok(t) => {
-            write_in(t, content, starts, ends, kinds, columns, records, room)
-        }
+        Ok(t) => { write_in(t, content, starts, ends, kinds, columns, records, room) }
         Err(_) => { codes::refusal(codes::call_report(codes::WRONG_CALL)) }
     }
 }

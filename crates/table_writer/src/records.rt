@@ -1,6 +1,7 @@
 // The records of a table, in two loops: checked and measured, then written. In: the lists of a table's cells. Out: the length of its text
 // or the first fault, then the text in the room. The definitions are `rows_fault` and `table_text` of model's specs/rules. A rule that
 // changes for a record changes a law of proofs/Rows.antt, and no loop.
+ghost use Rattle.core.specs.Result.{result_and};
 ghost use Rattle.std.specs.Prelude.{◌≡◌, true, ◌++◌, ◌*◌, ◌≤◌, length};
 ghost use Rattle.std.specs.Prelude.{Ok};
 ghost use Rattle.model.specs.rules.Base.{over};
@@ -13,8 +14,7 @@ ghost use Rattle.cell_decoder.specs.Sources.{cells_in, Cells};
 ghost use Rattle.table_writer.specs.Rows.{rows_given, header_if, row_check, measured_as};
 
 use cell_decoder::source::Source;
-use model::{Dialect, Fault};
-use record_target::{Measurement, TargetCheck};
+use model::{Dialect, Fault, Report};
 use record_writer::line;
 
 // ---- measuring
@@ -47,20 +47,14 @@ fn check_record(
     kinds: &[u8],
     header: bool,
     written: usize,
-) -> TargetCheck
+) -> Result<usize, Fault>
     requires cells { Cells Contents content.now starts.now ends.now kinds.now }
     requires written_bound { written ≤ MAXFILE }
-    ensures verdict_value { result.verdict ≡ row_check t header written
-        (cells_in Contents content.now starts.now ends.now kinds.now) }
-    ensures length_value { result.verdict ≡ Ok tt → result.length ≡ length (record_text (into t) header
-        (cells_in Contents content.now starts.now ends.now kinds.now) ++ ending t) }
+    ensures { result ≡ result_and
+        (row_check t header written (cells_in Contents content.now starts.now ends.now kinds.now))
+        (Ok (length (record_text (into t) header (cells_in Contents content.now starts.now ends.now kinds.now) ++ ending t))) }
 {
-    if let Err(e) = header_fault(t, content, starts, ends, kinds, header) {
-        return TargetCheck {
-            verdict: Err(e),
-            length: 0,
-        };
-    }
+    header_fault(t, content, starts, ends, kinds, header)?;
     record_target::check_target(
         Source::Contents,
         t,
@@ -83,7 +77,7 @@ pub fn measure(
     kinds: &[u8],
     columns: usize,
     records: usize,
-) -> Measurement
+) -> Result<usize, Report>
     requires cells { Cells Contents content.now starts.now ends.now kinds.now }
     requires starts_len { length starts.now ≡ columns * records }
     ensures { result ≡ measured_as (into t)
@@ -94,7 +88,7 @@ pub fn measure(
     let mut size = 0;
     while n < records {
         let next = at + columns;
-        let r = check_record(
+        match check_record(
             t,
             content,
             &starts[at..next],
@@ -102,16 +96,18 @@ pub fn measure(
             &kinds[at..next],
             n == 0,
             size,
-        );
-        n += 1;
-        let v = r.verdict;
-        if let Err(e) = v {
-            return Measurement::Refused(codes::record_report(e, n, 0));
+        ) {
+            Ok(length) => {
+                size += length;
+            }
+            Err(e) => {
+                return Err(codes::record_report(e, n + 1, 0));
+            }
         }
-        size += r.length;
+        n += 1;
         at = next;
     }
-    Measurement::Accepted { length: size }
+    Ok(size)
 }
 
 // ---- writing

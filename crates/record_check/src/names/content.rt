@@ -13,7 +13,7 @@ pub fn write_content(d: Dialect, raw: &[u8], room: &mut [u8]) -> usize
         × (room.new ≡ over (content_of d raw.now) room.old) }
 {
     // Content is no longer than its cell, so the room is never too short: this arm is proved unreachable.
-    let Decoded::Content { size, kind: _ } = cell_decoder::decode_sound(d, raw, room) else {
+    let Ok(Decoded { size, kind: _ }) = cell_decoder::decode_sound(d, raw, room) else {
         return 0;
     };
     size
