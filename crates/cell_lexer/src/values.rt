@@ -3,7 +3,7 @@
 // tests before it.
 ghost use Rattle.std.specs.Prelude.{◌≡◌};
 ghost use Rattle.model.specs.declared.Dialect.TheVariants.{Csvj, Tdif};
-ghost use Rattle.model.specs.rules.Base.{within};
+ghost use Rattle.model.specs.rules.Base.{choose◌then◌else◌};
 ghost use Rattle.model.specs.rules.Cell.{is_digit, is_hex, is_short, numeral_step, letter_of, after_letter, after_hex, first_byte, cell_step};
 
 use model::{ByteFault, Cell, CellStep, Char, HexLeft, Numeral, Word};
@@ -11,155 +11,85 @@ use model::{ByteFault, Cell, CellStep, Char, HexLeft, Numeral, Word};
 pub fn is_digit(b: u8) -> bool
     ensures { result ≡ is_digit b }
 {
-    if b < 0x30 {
-        return false;
-    }
-    b <= 0x39
-}
-
-fn is_upper_hex(b: u8) -> bool
-    ensures { result ≡ within 0x41 0x46 b }
-{
-    if b < 0x41 {
-        return false;
-    }
-    b <= 0x46
-}
-
-fn is_lower_hex(b: u8) -> bool
-    ensures { result ≡ within 0x61 0x66 b }
-{
-    if b < 0x61 {
-        return false;
-    }
-    b <= 0x66
+    b.is_ascii_digit()
 }
 
 pub fn is_hex(b: u8) -> bool
     ensures { result ≡ is_hex b }
 {
-    if is_digit(b) {
-        return true;
-    }
-    if is_upper_hex(b) {
-        return true;
-    }
-    is_lower_hex(b)
+    b.is_ascii_hexdigit()
 }
 
 pub fn is_short(b: u8) -> bool
     ensures { result ≡ is_short b }
 {
-    if b == 0x22 {
-        return true;
-    }
-    if b == 0x5C {
-        return true;
-    }
-    if b == 0x2F {
-        return true;
-    }
-    if b == 0x62 {
-        return true;
-    }
-    if b == 0x66 {
-        return true;
-    }
-    if b == 0x6E {
-        return true;
-    }
-    if b == 0x72 {
-        return true;
-    }
-    b == 0x74
+    matches!(b, b'"' | b'\\' | b'/' | b'b' | b'f' | b'n' | b'r' | b't')
 }
 
 // After the digits before a point or an exponent (§3.5).
 fn after_integer(b: u8) -> CellStep
     ensures { result ≡ numeral_step Numeral.Zero b }
 {
-    if b == 0x2E {
-        return CellStep::More(Cell::InNumber(Numeral::Point));
+    match b {
+        b'.' => CellStep::More(Cell::InNumber(Numeral::Point)),
+        b'e' | b'E' => CellStep::More(Cell::InNumber(Numeral::E)),
+        _ => CellStep::Stop,
     }
-    if b == 0x65 {
-        return CellStep::More(Cell::InNumber(Numeral::E));
-    }
-    if b == 0x45 {
-        return CellStep::More(Cell::InNumber(Numeral::E));
-    }
-    CellStep::Stop
 }
 
 fn after_fraction(b: u8) -> CellStep
     ensures { result ≡ numeral_step Numeral.Fraction b }
 {
-    if is_digit(b) {
-        return CellStep::More(Cell::InNumber(Numeral::Fraction));
+    match b {
+        b'0'..=b'9' => CellStep::More(Cell::InNumber(Numeral::Fraction)),
+        b'e' | b'E' => CellStep::More(Cell::InNumber(Numeral::E)),
+        _ => CellStep::Stop,
     }
-    if b == 0x65 {
-        return CellStep::More(Cell::InNumber(Numeral::E));
-    }
-    if b == 0x45 {
-        return CellStep::More(Cell::InNumber(Numeral::E));
-    }
-    CellStep::Stop
 }
 
 fn after_e(b: u8) -> CellStep
     ensures { result ≡ numeral_step Numeral.E b }
 {
-    if is_digit(b) {
-        return CellStep::More(Cell::InNumber(Numeral::Exponent));
+    match b {
+        b'0'..=b'9' => CellStep::More(Cell::InNumber(Numeral::Exponent)),
+        b'+' | b'-' => CellStep::More(Cell::InNumber(Numeral::ESign)),
+        _ => CellStep::Refuse(ByteFault::Syntax),
     }
-    if b == 0x2B {
-        return CellStep::More(Cell::InNumber(Numeral::ESign));
+}
+
+// A digit, or the step without one.
+fn digit_or(b: u8, next: Numeral, otherwise: CellStep) -> CellStep
+    ensures { result ≡ (choose is_digit b then CellStep.More (Cell.InNumber next) else otherwise) }
+{
+    if b.is_ascii_digit() {
+        CellStep::More(Cell::InNumber(next))
+    } else {
+        otherwise
     }
-    if b == 0x2D {
-        return CellStep::More(Cell::InNumber(Numeral::ESign));
-    }
-    CellStep::Refuse(ByteFault::Syntax)
 }
 
 pub fn numeral_step(n: Numeral, b: u8) -> CellStep
     ensures { result ≡ numeral_step n b }
 {
     match n {
-        Numeral::Minus => {
-            if b == 0x30 {
-                return CellStep::More(Cell::InNumber(Numeral::Zero));
-            }
-            if is_digit(b) {
-                return CellStep::More(Cell::InNumber(Numeral::Integer));
-            }
-            CellStep::Refuse(ByteFault::Syntax)
-        }
+        Numeral::Minus => match b {
+            b'0' => CellStep::More(Cell::InNumber(Numeral::Zero)),
+            b'1'..=b'9' => CellStep::More(Cell::InNumber(Numeral::Integer)),
+            _ => CellStep::Refuse(ByteFault::Syntax),
+        },
         Numeral::Zero => after_integer(b),
         Numeral::Integer => {
-            if is_digit(b) {
-                return CellStep::More(Cell::InNumber(Numeral::Integer));
+            if b.is_ascii_digit() {
+                CellStep::More(Cell::InNumber(Numeral::Integer))
+            } else {
+                after_integer(b)
             }
-            after_integer(b)
         }
-        Numeral::Point => {
-            if is_digit(b) {
-                return CellStep::More(Cell::InNumber(Numeral::Fraction));
-            }
-            CellStep::Refuse(ByteFault::Syntax)
-        }
+        Numeral::Point => digit_or(b, Numeral::Fraction, CellStep::Refuse(ByteFault::Syntax)),
         Numeral::Fraction => after_fraction(b),
         Numeral::E => after_e(b),
-        Numeral::ESign => {
-            if is_digit(b) {
-                return CellStep::More(Cell::InNumber(Numeral::Exponent));
-            }
-            CellStep::Refuse(ByteFault::Syntax)
-        }
-        Numeral::Exponent => {
-            if is_digit(b) {
-                return CellStep::More(Cell::InNumber(Numeral::Exponent));
-            }
-            CellStep::Stop
-        }
+        Numeral::ESign => digit_or(b, Numeral::Exponent, CellStep::Refuse(ByteFault::Syntax)),
+        Numeral::Exponent => digit_or(b, Numeral::Exponent, CellStep::Stop),
     }
 }
 
@@ -167,17 +97,13 @@ pub fn letter_of(w: Word) -> u8
     ensures { result ≡ letter_of w }
 {
     match w {
-        Word::T => 0x72,
-        Word::Tr => 0x75,
-        Word::Tru => 0x65,
-        Word::F => 0x61,
-        Word::Fa => 0x6C,
-        Word::Fal => 0x73,
-        Word::Fals => 0x65,
-        Word::N => 0x75,
-        Word::Nu => 0x6C,
-        Word::Nul => 0x6C,
-        Word::Backslash => 0x4E,
+        Word::T => b'r',
+        Word::F => b'a',
+        Word::Tr | Word::N => b'u',
+        Word::Tru | Word::Fals => b'e',
+        Word::Fa | Word::Nu | Word::Nul => b'l',
+        Word::Fal => b's',
+        Word::Backslash => b'N',
     }
 }
 
@@ -187,15 +113,12 @@ pub fn after_letter(w: Word) -> Cell
     match w {
         Word::T => Cell::InWord(Word::Tr),
         Word::Tr => Cell::InWord(Word::Tru),
-        Word::Tru => Cell::Complete,
         Word::F => Cell::InWord(Word::Fa),
         Word::Fa => Cell::InWord(Word::Fal),
         Word::Fal => Cell::InWord(Word::Fals),
-        Word::Fals => Cell::Complete,
         Word::N => Cell::InWord(Word::Nu),
         Word::Nu => Cell::InWord(Word::Nul),
-        Word::Nul => Cell::Complete,
-        Word::Backslash => Cell::Complete,
+        Word::Tru | Word::Fals | Word::Nul | Word::Backslash => Cell::Complete,
     }
 }
 
@@ -214,49 +137,35 @@ pub fn escape_step(b: u8) -> CellStep
     ensures { result ≡ cell_step Csvj Cell.Escape b }
 {
     if is_short(b) {
-        return CellStep::More(Cell::Quoted(Char::Whole));
+        CellStep::More(Cell::Quoted(Char::Whole))
+    } else if b == b'u' {
+        CellStep::More(Cell::Hex(HexLeft::Four))
+    } else {
+        CellStep::Refuse(ByteFault::Syntax)
     }
-    if b == 0x75 {
-        return CellStep::More(Cell::Hex(HexLeft::Four));
-    }
-    CellStep::Refuse(ByteFault::Syntax)
 }
 
 pub fn csvj_first(b: u8) -> CellStep
     ensures { result ≡ first_byte Csvj b }
 {
-    if b == 0x22 {
-        return CellStep::More(Cell::Quoted(Char::Whole));
+    match b {
+        b'"' => CellStep::More(Cell::Quoted(Char::Whole)),
+        b'-' => CellStep::More(Cell::InNumber(Numeral::Minus)),
+        b'0' => CellStep::More(Cell::InNumber(Numeral::Zero)),
+        b'1'..=b'9' => CellStep::More(Cell::InNumber(Numeral::Integer)),
+        b't' => CellStep::More(Cell::InWord(Word::T)),
+        b'f' => CellStep::More(Cell::InWord(Word::F)),
+        b'n' => CellStep::More(Cell::InWord(Word::N)),
+        _ => CellStep::Refuse(ByteFault::Syntax),
     }
-    if b == 0x2D {
-        return CellStep::More(Cell::InNumber(Numeral::Minus));
-    }
-    if b == 0x30 {
-        return CellStep::More(Cell::InNumber(Numeral::Zero));
-    }
-    if is_digit(b) {
-        return CellStep::More(Cell::InNumber(Numeral::Integer));
-    }
-    if b == 0x74 {
-        return CellStep::More(Cell::InWord(Word::T));
-    }
-    if b == 0x66 {
-        return CellStep::More(Cell::InWord(Word::F));
-    }
-    if b == 0x6E {
-        return CellStep::More(Cell::InWord(Word::N));
-    }
-    CellStep::Refuse(ByteFault::Syntax)
 }
 
 pub fn tdif_first(b: u8) -> CellStep
     ensures { result ≡ first_byte Tdif b }
 {
-    if b == 0x22 {
-        return CellStep::More(Cell::Quoted(Char::Whole));
+    match b {
+        b'"' => CellStep::More(Cell::Quoted(Char::Whole)),
+        b'\\' => CellStep::More(Cell::InWord(Word::Backslash)),
+        _ => CellStep::Refuse(ByteFault::Syntax),
     }
-    if b == 0x5C {
-        return CellStep::More(Cell::InWord(Word::Backslash));
-    }
-    CellStep::Refuse(ByteFault::Syntax)
 }

@@ -8,43 +8,30 @@ use model::{ByteFault, ByteRole, Cell, Dialect, FileState, Settings};
 pub fn is_blank(b: u8) -> bool
     ensures { result ≡ is_blank b }
 {
-    if b == 0x20 {
-        return true;
-    }
-    b == 0x09
+    matches!(b, b' ' | b'\t')
 }
 
 fn csvj_after(closes: bool, b: u8) -> Result<(FileState, ByteRole), ByteFault>
     ensures { result ≡ after_cell Dialect.Csvj closes b }
 {
-    if is_blank(b) {
-        return Ok((FileState::After, ByteRole::Between { closes }));
+    match b {
+        b' ' | b'\t' => Ok((FileState::After, ByteRole::Between { closes })),
+        b',' => Ok((FileState::ExpectCell, ByteRole::Between { closes })),
+        b'\n' => Ok((FileState::Begin, ByteRole::Ends { closes })),
+        b'\r' => Ok((FileState::Cr, ByteRole::Tail { closes })),
+        _ => Err(ByteFault::Syntax),
     }
-    if b == 0x2C {
-        return Ok((FileState::ExpectCell, ByteRole::Between { closes }));
-    }
-    if b == 0x0A {
-        return Ok((FileState::Begin, ByteRole::Ends { closes }));
-    }
-    if b == 0x0D {
-        return Ok((FileState::Cr, ByteRole::Tail { closes }));
-    }
-    Err(ByteFault::Syntax)
 }
 
 fn tdif_after(closes: bool, b: u8) -> Result<(FileState, ByteRole), ByteFault>
     ensures { result ≡ after_cell Dialect.Tdif closes b }
 {
-    if b == 0x2C {
-        return Ok((FileState::Inside(Cell::Fresh), ByteRole::Between { closes }));
+    match b {
+        b',' => Ok((FileState::Inside(Cell::Fresh), ByteRole::Between { closes })),
+        b'\n' => Ok((FileState::Begin, ByteRole::Ends { closes })),
+        b'\r' => Ok((FileState::Ended, ByteRole::Ends { closes })),
+        _ => Err(ByteFault::Syntax),
     }
-    if b == 0x0A {
-        return Ok((FileState::Begin, ByteRole::Ends { closes }));
-    }
-    if b == 0x0D {
-        return Ok((FileState::Ended, ByteRole::Ends { closes }));
-    }
-    Err(ByteFault::Syntax)
 }
 
 fn plus_after(s: Settings, closes: bool, b: u8) -> Result<(FileState, ByteRole), ByteFault>
@@ -53,13 +40,11 @@ fn plus_after(s: Settings, closes: bool, b: u8) -> Result<(FileState, ByteRole),
     if b == cell_lexer::delimiter_of(Dialect::CsvPlus(s)) {
         return Ok((FileState::Inside(Cell::Fresh), ByteRole::Between { closes }));
     }
-    if b == 0x0A {
-        return Ok((FileState::Begin, ByteRole::Ends { closes }));
+    match b {
+        b'\n' => Ok((FileState::Begin, ByteRole::Ends { closes })),
+        b'\r' => Ok((FileState::Cr, ByteRole::Tail { closes })),
+        _ => Err(ByteFault::Syntax),
     }
-    if b == 0x0D {
-        return Ok((FileState::Cr, ByteRole::Tail { closes }));
-    }
-    Err(ByteFault::Syntax)
 }
 
 // The byte after a cell that ends before it (`closes`), or after blanks that follow a cell of CSVJ.

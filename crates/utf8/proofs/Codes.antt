@@ -1,27 +1,22 @@
 -- Shifts and masks on code points equal the definitions' arithmetic: a mask of k ones is the remainder by 2 ^ k, and a tag above k bits
 -- adds. Both are laws over the width.
-use mathlib.Core.Path.{◌≡◌, sym, ap, ◌∙◌}
-use mathlib.Core.List.{[], ◌∷◌, ◌++◌}
+use mathlib.Core.Path.{◌≡◌, ap, ◌∙◌}
+use mathlib.Core.List.{[], ◌∷◌}
 use Prim.Native.Nat.{ℕ, ◌+◌, ◌*◌, ◌/◌, ◌%◌, ◌^◌, ◌-◌, ◌≤◌, ◌<◌}
 use native.Mathlib.Omega.{arith}
 use lib.Bits.{bit_and, bit_or, and_mask, mask_lt, or_shifted, or_shifted_r}
-use lib.ListN.{length, take}
+use lib.ListN.{length}
 use borrow.Author.Tests.{le-leb, lt-leb}
 use Rattle.model.specs.rules.Base.{choose◌then◌else◌, Bytes}
 use Rattle.model.specs.rules.Utf8.{pack, joined}
 use Rattle.model.proofs.Tests.{split, within_true}
-use Rattle.utf8.specs.Codes.{packed, zeros, Packs, ten_bits, Joins}
+use Rattle.utf8.specs.Codes.{packed, ten_bits, Joins}
 
 -- the k low bits of u below the tag a
 pub marked : (a k u : ℕ) → bit_or (bit_and u (2 ^ k - 1)) (a * 2 ^ k) ≡ a * 2 ^ k + u % 2 ^ k
 marked a k u = or_shifted_r a k (bit_and u (2 ^ k - 1)) (mask_lt u k) ∙ ap (λ (n : ℕ). a * 2 ^ k + n) (and_mask u k)
 
 -- ---- the bytes of a code point
-
--- four bytes that begin with those of u, followed by zeros
-pub packs_of : (u : ℕ) (bytes : Bytes) (size : ℕ) → packed u ≡ take size bytes → size ≡ length (take size bytes)
-    → bytes ≡ take 4 (take size bytes ++ zeros) → Packs u bytes size
-packs_of u bytes size e l z = record { packs = sym e; sized = l ∙ ap length (sym e); padded = z ∙ ap (λ (bs : Bytes). take 4 (bs ++ zeros)) (sym e) }
 
 pub packed_one : (u : ℕ) → u ≤ 0x7F → packed u ≡ u ∷ []
 unfolding packed pack choose◌then◌else◌

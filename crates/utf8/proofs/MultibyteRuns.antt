@@ -18,11 +18,13 @@ use Rattle.model.specs.declared.Char.TheVariants.{Whole, Within}
 use Rattle.std.specs.Prelude.{Option}
 use Rattle.std.specs.Prelude.{Some, None}
 use Rattle.model.specs.rules.Base.{Bytes, choose◌then◌else◌, within}
-use Rattle.model.specs.rules.Utf8.{row_of, leads, lead_byte, after_second, inner_step, char_step}
+use Rattle.model.specs.rules.Utf8.{row_of, leads, lead_byte, after_second, inner_step, char_step, is_later}
 use Rattle.model.specs.rules.Api.{slice}
 use Rattle.model.proofs.Tests.{split_on, and_true}
 use Rattle.model.proofs.cell_laws.Utf8.{ascii_whole, inner_high, broken_on}
-use Rattle.utf8.specs.Multibyte.{chars_from, all_high, WideText, WideRun, RowFor, no_row, three, four}
+use Rattle.utf8.specs.declared.Row.{Row}
+use Rattle.utf8.specs.Table.{IsRow}
+use Rattle.utf8.specs.Multibyte.{chars_from, all_high, WideText, WideRun}
 
 -- ---- slices
 
@@ -197,46 +199,46 @@ module _ (b : ℕ) where
   unfolding row_of
   at_f4 h = at_f1 (omega arith) ∙ skip_row F1ToF3 _ b h
 
-  pub row_e0 : 0xDF < b → b ≤ 0xE0 → RowFor b 3 0xA0 0xBF
+  pub row_e0 : 0xDF < b → b ≤ 0xE0 → char_step Whole b ≡ Some (Within (Second E0))
   unfolding row_of
-  row_e0 h k = three E0 (at_e0 h ∙ take_row E0 _ b h k) refl
+  row_e0 h k = at_e0 h ∙ take_row E0 _ b h k
 
-  pub row_e1 : 0xE0 < b → b ≤ 0xEC → RowFor b 3 0x80 0xBF
+  pub row_e1 : 0xE0 < b → b ≤ 0xEC → char_step Whole b ≡ Some (Within (Second E1ToEc))
   unfolding row_of
-  row_e1 h k = three E1ToEc (at_e1 h ∙ take_row E1ToEc _ b h k) refl
+  row_e1 h k = at_e1 h ∙ take_row E1ToEc _ b h k
 
-  pub row_ed : 0xEC < b → b ≤ 0xED → RowFor b 3 0x80 0x9F
+  pub row_ed : 0xEC < b → b ≤ 0xED → char_step Whole b ≡ Some (Within (Second Ed))
   unfolding row_of
-  row_ed h k = three Ed (at_ed h ∙ take_row Ed _ b h k) refl
+  row_ed h k = at_ed h ∙ take_row Ed _ b h k
 
-  pub row_ee : 0xED < b → b ≤ 0xEF → RowFor b 3 0x80 0xBF
+  pub row_ee : 0xED < b → b ≤ 0xEF → char_step Whole b ≡ Some (Within (Second EeToEf))
   unfolding row_of
-  row_ee h k = three EeToEf (at_ee h ∙ take_row EeToEf _ b h k) refl
+  row_ee h k = at_ee h ∙ take_row EeToEf _ b h k
 
-  pub row_f0 : 0xEF < b → b ≤ 0xF0 → RowFor b 4 0x90 0xBF
+  pub row_f0 : 0xEF < b → b ≤ 0xF0 → char_step Whole b ≡ Some (Within (Second F0))
   unfolding row_of
-  row_f0 h k = four F0 (at_f0 h ∙ take_row F0 _ b h k) refl
+  row_f0 h k = at_f0 h ∙ take_row F0 _ b h k
 
-  pub row_f1 : 0xF0 < b → b ≤ 0xF3 → RowFor b 4 0x80 0xBF
+  pub row_f1 : 0xF0 < b → b ≤ 0xF3 → char_step Whole b ≡ Some (Within (Second F1ToF3))
   unfolding row_of
-  row_f1 h k = four F1ToF3 (at_f1 h ∙ take_row F1ToF3 _ b h k) refl
+  row_f1 h k = at_f1 h ∙ take_row F1ToF3 _ b h k
 
-  pub row_f4 : 0xF3 < b → b ≤ 0xF4 → RowFor b 4 0x80 0x8F
+  pub row_f4 : 0xF3 < b → b ≤ 0xF4 → char_step Whole b ≡ Some (Within (Second F4))
   unfolding row_of
-  row_f4 h k = four F4 (at_f4 h ∙ take_row F4 _ b h k) refl
+  row_f4 h k = at_f4 h ∙ take_row F4 _ b h k
 
 -- ---- the character at an offset
 
--- its length, if it has a row
-pub row_length : {b n low high : ℕ} → RowFor b n low high → ¬ (n ≡ 0) → 3 ≤ n
-row_length no_row h = absurd (h refl)
-row_length (three l e z) h = omega arith
-row_length (four l e z) h = omega arith
-
-pub row_longest : {b n low high : ℕ} → RowFor b n low high → ¬ (n ≡ 0) → ¬ (n ≡ 3) → n ≡ 4
-row_longest no_row h k = absurd (h refl)
-row_longest (three l e z) h k = absurd (k refl)
-row_longest (four l e z) h k = refl
+longest : (l : Lead) → (row_of l).size ≤ 4
+unfolding row_of
+longest C2ToDf = omega arith
+longest E0 = omega arith
+longest E1ToEc = omega arith
+longest Ed = omega arith
+longest EeToEf = omega arith
+longest F0 = omega arith
+longest F1ToF3 = omega arith
+longest F4 = omega arith
 
 module _ (s : Bytes) (i stop : ℕ) (inside : stop ≤ length s) where
   bytes_two : i + 2 ≤ stop → slice s i (i + 2) ≡ get_or s i 0 ∷ get_or s (i + 1) 0 ∷ []
@@ -267,16 +269,18 @@ module _ (s : Bytes) (i stop : ℕ) (inside : stop ≤ length s) where
       let first = at_c2 (get_or s i 0) low ∙ take_row C2ToDf _ (get_or s i 0) low high in
       record { from = omega arith; upto = h; characters = rw (bytes_two h) (wide_two C2ToDf (get_or s i 0) (get_or s (i + 1) 0) first low2 high2 refl) }
 
-  pub run_three : {n low high : ℕ} → RowFor (get_or s i 0) n low high → n ≡ 3 → i + n ≤ stop → low ≤ get_or s (i + 1) 0 → get_or s (i + 1) 0 ≤ high
-      → within 0x80 0xBF (get_or s (i + 2) 0) ≡ true → WideRun s i stop (i + n)
-  run_three no_row n h l m c = absurd (omega arith)
-  run_three (three x first size) n h l m c =
-      record { from = omega arith; upto = h; characters = rw (bytes_three h) (wide_three x (get_or s i 0) (get_or s (i + 1) 0) first l m (get_or s (i + 2) 0) size c) }
-  run_three (four x first size) n h l m c = absurd (omega arith)
+  module _ (r : Row) (row : IsRow r.lead r) (first : char_step Whole (get_or s i 0) ≡ Some (Within (Second r.lead))) (low : r.low ≤ get_or s (i + 1) 0)
+      (high : get_or s (i + 1) 0 ≤ r.high) (third : is_later (get_or s (i + 2) 0) ≡ true) where
+    pub run_three : r.length ≡ 3 → i + r.length ≤ stop → WideRun s i stop (i + r.length)
+    run_three n h =
+        let w = wide_three r.lead (get_or s i 0) (get_or s (i + 1) 0) first (omega (arith, row.low)) (omega (arith, row.high)) (get_or s (i + 2) 0) (omega (arith, row.size)) third in
+        let h' : i + 3 ≤ stop = omega arith in
+        record { from = omega arith; upto = h; characters = rw (n, bytes_three h') w }
 
-  pub run_four : {n low high : ℕ} → RowFor (get_or s i 0) n low high → n ≡ 4 → i + n ≤ stop → low ≤ get_or s (i + 1) 0 → get_or s (i + 1) 0 ≤ high
-      → within 0x80 0xBF (get_or s (i + 2) 0) ≡ true → within 0x80 0xBF (get_or s (i + 3) 0) ≡ true → WideRun s i stop (i + n)
-  run_four no_row n h l m c e = absurd (omega arith)
-  run_four (three x first size) n h l m c e = absurd (omega arith)
-  run_four (four x first size) n h l m c e =
-      record { from = omega arith; upto = h; characters = rw (bytes_four h) (wide_four x (get_or s i 0) (get_or s (i + 1) 0) first l m (get_or s (i + 2) 0) (get_or s (i + 3) 0) size c e) }
+    pub run_four : ¬ (r.length ≡ 3) → 3 ≤ r.length → i + r.length ≤ stop → is_later (get_or s (i + 3) 0) ≡ true → WideRun s i stop (i + r.length)
+    run_four k m h fourth =
+        let n : r.length ≡ 4 = omega (arith, row.size, longest r.lead) in
+        let size : (row_of r.lead).size ≡ 4 = omega (arith, row.size) in
+        let w = wide_four r.lead (get_or s i 0) (get_or s (i + 1) 0) first (omega (arith, row.low)) (omega (arith, row.high)) (get_or s (i + 2) 0) (get_or s (i + 3) 0) size third fourth in
+        let h' : i + 4 ≤ stop = omega arith in
+        record { from = omega arith; upto = h; characters = rw (n, bytes_four h') w }

@@ -1,62 +1,59 @@
--- The code's table against the definition's rows. A column of the code's table is one field of each row, in order; `firsts` to `highs`
--- are the definition's columns and compute, so a proof that passes a test on the code's array to a law on one of them compares the two
--- lists entry by entry. The laws then give the definition's step by the entries at one index.
+-- The code's table against the definition's rows: the first byte is searched for in the same rows, and the second byte is tested by the
+-- entries of its row.
+use Rattle.std.proofs.Common.{rules}
 use mathlib.Core.Path.{◌≡◌, refl}
+use mathlib.Core.Bool.{Bool, true, false, cond}
 use mathlib.Core.List.{List, [], ◌∷◌, map}
-use Prim.Native.Nat.{ℕ, zero, suc, ◌<◌}
-use native.Mathlib.Nat.{le_of_suc-le-suc, not-suc-le-zero}
-use lib.ListN.{length, get_or, drop}
+use Prim.Native.Nat.{ℕ}
+use Rattle.std.specs.Prelude.{Option, Some, None, MatchOption, IsSomeAnd}
+use Rattle.std.specs.List.{find}
+use Rattle.std.specs.Option.{option_map}
 use Rattle.model.specs.rules.Base.{choose◌then◌else◌, within}
-use Rattle.model.specs.rules.Utf8.{Row, row_of, leads, lead_byte, after_second, inner_step}
+use Rattle.model.specs.rules.Utf8.{row_of, leads, lead_byte, after_second, inner_step}
 use Rattle.model.specs.declared.Lead.{Lead}
-use Rattle.model.specs.declared.Lead.TheVariants.{C2ToDf}
 use Rattle.model.specs.declared.Inner.TheVariants.{Second}
+use Rattle.model.specs.declared.Char.{Char}
 use Rattle.model.specs.declared.Char.TheVariants.{Within}
-use Rattle.std.specs.Prelude.{Some, None}
+use Rattle.utf8.specs.declared.Row.{Row}
+use Rattle.utf8.specs.declared.TheConstants.{ROWS}
+use Rattle.utf8.specs.Table.{IsRow}
 
--- one field of each row
-abbrev pub column : (Row → ℕ) → List Lead → List ℕ
-column slice ls = map (λ l. slice (row_of l)) ls
+-- the first byte b begins a character of this row
+abbrev pub covers : ℕ → Row → Bool
+covers b r = within r.first r.last b
 
--- an entry is that field of the row at its index
-pub entry : (slice : Row → ℕ) (ls : List Lead) (i : ℕ) → i < length ls → get_or (column slice ls) i 0 ≡ slice (row_of (get_or ls i C2ToDf))
-entry slice [] i h = absurd (not-suc-le-zero h)
-entry slice (l ∷ ls) zero h = refl
-entry slice (l ∷ ls) (suc i) h = entry slice ls i (le_of_suc-le-suc h)
+-- the state after the first byte of a character of this row
+abbrev pub begun : Row → Char
+begun r = Within (Second r.lead)
 
-abbrev pub firsts : List ℕ
-firsts = column (λ r. r.lo) leads
+abbrev AreRows : List Row → Type 0
+AreRows [] = Unit {0}
+AreRows (r ∷ rs) = IsRow r.lead r × AreRows rs
 
-abbrev pub lasts : List ℕ
-lasts = column (λ r. r.hi) leads
+search_by : (rs : List Row) (b : ℕ) → AreRows rs → lead_byte (map (λ r. r.lead) rs) b ≡ option_map begun (find (covers b) rs)
+unfolding lead_byte choose◌then◌else◌
+search_by [] b h = refl
+search_by (r ∷ rs) b h = rw (← h.0.first, ← h.0.last) (by (covers b r) (search_by rs b h.1))
+  where
+    by : (t : Bool) → lead_byte (map (λ r. r.lead) rs) b ≡ option_map begun (find (covers b) rs)
+        → (choose t then Some (begun r) else lead_byte (map (λ r. r.lead) rs) b) ≡ option_map begun (cond t (Some r) (find (covers b) rs))
+    by true e = refl
+    by false e = e
 
-abbrev pub sizes : List ℕ
-sizes = column (λ r. r.size) leads
+-- the first row of the code's table that covers b
+pub lead_found : (b : ℕ) → lead_byte leads b ≡ option_map begun (find (covers b) ROWS)
+unfolding row_of leads
+lead_found b = search_by ROWS b (search rules)
 
-abbrev pub lows : List ℕ
-lows = column (λ r. r.lo2) leads
+-- what `Option::map` gives of a value that v reads
+pub mapped : {A B C : Type 0} (v : A → B) (h : B → C) (o : Option A) (r : Option C) {P : A → C → Type 0}
+    → MatchOption o (r ≡ None) (λ x. IsSomeAnd r (P x)) → ((x : A) (y : C) → P x y → y ≡ h (v x)) → r ≡ option_map h (option_map v o)
+mapped v h None r e k = e
+mapped v h (Some x) (Some y) e k = rw (k x y e)
+mapped v h (Some x) None e k = absurd e
 
-abbrev pub highs : List ℕ
-highs = column (λ r. r.hi2) leads
-
--- the search of the table from index i on
-lead_from : (ls : List Lead) (i b : ℕ) → i < length ls
-    → lead_byte (drop i ls) b
-    ≡ (choose within (get_or (column (λ r. r.lo) ls) i 0) (get_or (column (λ r. r.hi) ls) i 0) b
-    then Some (Within (Second (get_or ls i C2ToDf))) else lead_byte (drop (suc i) ls) b)
-unfolding lead_byte
-lead_from [] i b h = absurd (not-suc-le-zero h)
-lead_from (l ∷ ls) zero b h = refl
-lead_from (l ∷ ls) (suc i) b h = lead_from ls i b (le_of_suc-le-suc h)
-
-module _ (i b : ℕ) (h : i < 8) where
-  pub lead_at : lead_byte (drop i leads) b
-      ≡ (choose within (get_or firsts i 0) (get_or lasts i 0) b then Some (Within (Second (get_or leads i C2ToDf))) else lead_byte (drop (suc i) leads) b)
-  unfolding leads
-  lead_at = lead_from leads i b h
-
-  -- the second byte of a character whose row has index i
-  pub second_at : {l : Lead} → get_or leads i C2ToDf ≡ l
-      → inner_step (Second l) b ≡ (choose within (get_or lows i 0) (get_or highs i 0) b then Some (after_second (get_or sizes i 0)) else None)
-  unfolding leads inner_step
-  second_at e = rw (← e, entry (λ r. r.lo2) leads i h, entry (λ r. r.hi2) leads i h, entry (λ r. r.size) leads i h)
+-- the second byte of a character of this row
+pub second_at : (l : Lead) (r : Row) (b : ℕ) → IsRow l r
+    → inner_step (Second l) b ≡ (choose within r.low r.high b then Some (after_second r.length) else None)
+unfolding inner_step
+second_at l r b h = rw (h.low, h.high, h.size)

@@ -1,20 +1,11 @@
 -- What the functions on code points return, also for numbers that are not code points.
-use Rattle.std.specs.Prelude.{ℕ, ◌+◌, ◌*◌, ◌%◌, ◌≡◌, true, [], ◌∷◌, ◌++◌, leb, length, take}
+use Rattle.std.specs.Prelude.{ℕ, ◌+◌, ◌*◌, ◌%◌, ◌≡◌, true, [], leb}
 use Rattle.model.specs.rules.Base.{choose◌then◌else◌, Bytes}
 use Rattle.model.specs.rules.Utf8.{pack, is_high, is_low, joined}
 
 -- the bytes of a code point; a number above the last code point has none (§2.10)
 unfoldable pub packed : ℕ → Bytes
 packed u = choose leb u 0x10FFFF then pack u else []
-
-abbrev pub zeros : Bytes
-zeros = 0 ∷ 0 ∷ 0 ∷ 0 ∷ []
-
--- the first `size` of the four bytes are exactly those of u; zeros follow
-pub record Packs (u : ℕ) (bytes : Bytes) (size : ℕ) : Type 0 where
-  pub packs : take size bytes ≡ packed u
-  pub sized : size ≡ length (packed u)
-  pub padded : bytes ≡ take 4 (packed u ++ zeros)
 
 -- ten bits of each number, plus 0x10000
 abbrev pub ten_bits : ℕ → ℕ → ℕ

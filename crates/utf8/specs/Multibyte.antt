@@ -1,14 +1,14 @@
 -- Runs of whole non-ASCII characters (§2.11).
-use Rattle.std.specs.Prelude.{ℕ, ◌≤◌, ◌≡◌, Bool, true, ◌&&◌, [], ◌∷◌, leb}
-use Rattle.model.specs.declared.Lead.{Lead}
+use Rattle.std.specs.Prelude.{ℕ, ◌≤◌, ◌<◌, ◌≡◌, Bool, true, ◌&&◌, [], ◌∷◌, leb}
 use Rattle.model.specs.declared.Inner.TheVariants.{Second}
 use Rattle.model.specs.declared.Char.{Char}
 use Rattle.model.specs.declared.Char.TheVariants.{Whole, Within}
-use Rattle.std.specs.Prelude.{Option}
-use Rattle.std.specs.Prelude.{Some, None}
+use Rattle.std.specs.Prelude.{Option, Some, None, IfSome}
 use Rattle.model.specs.rules.Base.{Bytes}
-use Rattle.model.specs.rules.Utf8.{row_of, char_step}
+use Rattle.model.specs.rules.Utf8.{char_step}
 use Rattle.model.specs.rules.Api.{slice}
+use Rattle.utf8.specs.declared.Row.{Row}
+use Rattle.utf8.specs.Table.{IsRow}
 
 -- the automaton's state after these bytes
 unfoldable pub chars_from : Char → Bytes → Option Char
@@ -30,8 +30,10 @@ pub record WideRun (s : Bytes) (at stop r : ℕ) : Type 0 where
   pub upto : r ≤ stop
   pub characters : WideText (slice s at r)
 
--- the table's row for a first byte of three or four: the length of the character and the range of its second byte; or length 0, no row
-pub data RowFor (b : ℕ) : (length low high : ℕ) → Type 0 where
-  no_row : {low high : ℕ} → RowFor b 0 low high
-  three : (l : Lead) → char_step Whole b ≡ Some (Within (Second l)) → (row_of l).size ≡ 3 → RowFor b 3 (row_of l).lo2 (row_of l).hi2
-  four : (l : Lead) → char_step Whole b ≡ Some (Within (Second l)) → (row_of l).size ≡ 4 → RowFor b 4 (row_of l).lo2 (row_of l).hi2
+-- the end of the character at i, if it is whole, not ASCII and ends by `stop`
+abbrev pub WideEnd : (s : Bytes) (i stop : ℕ) → Option ℕ → Type 0
+WideEnd s i stop r = IfSome r (λ e. (i < e) × WideRun s i stop e)
+
+-- the table's row of a first byte of three or four
+abbrev pub RowFor : ℕ → Option Row → Type 0
+RowFor b r = IfSome r (λ row. IsRow row.lead row × (char_step Whole b ≡ Some (Within (Second row.lead))) × (3 ≤ row.length))

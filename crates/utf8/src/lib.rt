@@ -6,64 +6,121 @@
 // proof. A return is proved from the tests before it, so a changed test needs the proof of its function again.
 #![tactic(auto)]
 
-ghost use Rattle.std.specs.Prelude.{◌≡◌, ◌+◌, ◌%◌, ◌<◌, get_or};
-ghost use Rattle.model.specs.rules.Base.{choose◌then◌else◌, within};
-ghost use Rattle.model.specs.rules.Utf8.{leads, lead_byte, inner_step, char_step};
-ghost use Rattle.model.specs.declared.Lead.TheVariants.{C2ToDf};
+ghost use Rattle.std.specs.Prelude.{◌≡◌, ◌+◌, ◌%◌};
+ghost use Rattle.model.specs.rules.Base.{choose◌then◌else◌};
+ghost use Rattle.model.specs.rules.Utf8.{leads, lead_byte, inner_step, char_step, is_later};
 ghost use Rattle.model.specs.declared.Inner.TheVariants.{Second};
-ghost use Rattle.std.specs.Prelude.{Some, None};
-ghost use Rattle.utf8.specs.Codes.{Packs, Joins};
+ghost use Rattle.utf8.specs.Codes.{packed, Joins};
+ghost use Rattle.utf8.specs.Table.{IsRow};
 
+use buffer::short::Short;
 use model::{Char, Inner, Lead};
 
 pub mod multibyte;
 
 // ---- the table
 
-// The rules' table of first and second bytes, from C2 on (§2.11). A row there is a column here:
-//
-//   first   C2-DF E0    E1-EC ED    EE-EF F0    F1-F3 F4
-//   length  2     3     3     3     3     4     4     4
-//   second  80-BF A0-BF 80-BF 80-9F 80-BF 90-BF 80-BF 80-8F
-pub const FIRST: [u8; 8] = [0xC2, 0xE0, 0xE1, 0xED, 0xEE, 0xF0, 0xF1, 0xF4];
+// A row of the rules' table of first and second bytes (§2.11): the first bytes, the character's length, and the range of its second byte.
+#[derive(Clone, Copy)]
+pub struct Row {
+    pub lead: Lead,
+    pub first: u8,
+    pub last: u8,
+    pub length: u8,
+    pub low: u8,
+    pub high: u8,
+}
 
-pub const LAST: [u8; 8] = [0xDF, 0xE0, 0xEC, 0xED, 0xEF, 0xF0, 0xF3, 0xF4];
-
-pub const LENGTH: [u8; 8] = [2, 3, 3, 3, 3, 4, 4, 4];
-
-pub const LOW: [u8; 8] = [0x80, 0xA0, 0x80, 0x80, 0x80, 0x90, 0x80, 0x80];
-
-pub const HIGH: [u8; 8] = [0xBF, 0xBF, 0xBF, 0x9F, 0xBF, 0xBF, 0xBF, 0x8F];
-
-// Bytes after the second, the same in every row.
-pub const LATER: [u8; 2] = [0x80, 0xBF];
-
-// The rows' names.
-const ROWS: [Lead; 8] = [
-    Lead::C2ToDf,
-    Lead::E0,
-    Lead::E1ToEc,
-    Lead::Ed,
-    Lead::EeToEf,
-    Lead::F0,
-    Lead::F1ToF3,
-    Lead::F4,
+// The table from its second row on. Rows ascend without gaps.
+pub const ROWS: [Row; 8] = [
+    Row {
+        lead: Lead::C2ToDf,
+        first: 0xC2,
+        last: 0xDF,
+        length: 2,
+        low: 0x80,
+        high: 0xBF,
+    },
+    Row {
+        lead: Lead::E0,
+        first: 0xE0,
+        last: 0xE0,
+        length: 3,
+        low: 0xA0,
+        high: 0xBF,
+    },
+    Row {
+        lead: Lead::E1ToEc,
+        first: 0xE1,
+        last: 0xEC,
+        length: 3,
+        low: 0x80,
+        high: 0xBF,
+    },
+    Row {
+        lead: Lead::Ed,
+        first: 0xED,
+        last: 0xED,
+        length: 3,
+        low: 0x80,
+        high: 0x9F,
+    },
+    Row {
+        lead: Lead::EeToEf,
+        first: 0xEE,
+        last: 0xEF,
+        length: 3,
+        low: 0x80,
+        high: 0xBF,
+    },
+    Row {
+        lead: Lead::F0,
+        first: 0xF0,
+        last: 0xF0,
+        length: 4,
+        low: 0x90,
+        high: 0xBF,
+    },
+    Row {
+        lead: Lead::F1ToF3,
+        first: 0xF1,
+        last: 0xF3,
+        length: 4,
+        low: 0x80,
+        high: 0xBF,
+    },
+    Row {
+        lead: Lead::F4,
+        first: 0xF4,
+        last: 0xF4,
+        length: 4,
+        low: 0x80,
+        high: 0x8F,
+    },
 ];
 
-// The index of a row.
-fn row_of(l: Lead) -> usize
-    ensures { (result < 8) × (get_or leads result C2ToDf ≡ l) }
+// The row of a name.
+#[tactic(auto, unfolding(model::specs::rules::Utf8::row_of))]
+fn row_of(l: Lead) -> Row
+    ensures { IsRow l result }
 {
     match l {
-        Lead::C2ToDf => 0,
-        Lead::E0 => 1,
-        Lead::E1ToEc => 2,
-        Lead::Ed => 3,
-        Lead::EeToEf => 4,
-        Lead::F0 => 5,
-        Lead::F1ToF3 => 6,
-        Lead::F4 => 7,
+        Lead::C2ToDf => ROWS[0],
+        Lead::E0 => ROWS[1],
+        Lead::E1ToEc => ROWS[2],
+        Lead::Ed => ROWS[3],
+        Lead::EeToEf => ROWS[4],
+        Lead::F0 => ROWS[5],
+        Lead::F1ToF3 => ROWS[6],
+        Lead::F4 => ROWS[7],
     }
+}
+
+// Bytes after the second have the same range in every row.
+pub fn is_later(b: u8) -> bool
+    ensures { result ≡ is_later b }
+{
+    matches!(b, 0x80..=0xBF)
 }
 
 // ---- a text, a byte at a time
@@ -72,19 +129,8 @@ fn row_of(l: Lead) -> usize
 fn lead_byte(b: u8) -> Option<Char>
     ensures { result ≡ lead_byte leads b }
 {
-    let first = FIRST;
-    let last = LAST;
-    let rows = ROWS;
-    let mut row: usize = 0;
-    while row < 8 {
-        if first[row] <= b {
-            if b <= last[row] {
-                return Some(Char::Within(Inner::Second(rows[row])));
-            }
-        }
-        row += 1;
-    }
-    None
+    let row = ROWS.iter().find(|row| (row.first..=row.last).contains(&b));
+    row.map(|row| Char::Within(Inner::Second(row.lead)))
 }
 
 // The second byte of a character of this row.
@@ -92,33 +138,21 @@ fn second_byte(l: Lead, b: u8) -> Option<Char>
     ensures { result ≡ inner_step (Second l) b }
 {
     let row = row_of(l);
-    if b < LOW[row] {
+    if !(row.low..=row.high).contains(&b) {
         return None;
     }
-    if HIGH[row] < b {
-        return None;
+    match row.length {
+        2 => Some(Char::Whole),
+        3 => Some(Char::Within(Inner::Last)),
+        _ => Some(Char::Within(Inner::LastTwo)),
     }
-    let size = LENGTH[row];
-    if size == 2 {
-        return Some(Char::Whole);
-    }
-    if size == 3 {
-        return Some(Char::Within(Inner::Last));
-    }
-    Some(Char::Within(Inner::LastTwo))
 }
 
 // A byte after the second, and the state after it.
 fn later_byte(b: u8, after: Char) -> Option<Char>
-    ensures { result ≡ (choose within 0x80 0xBF b then Some after else None) }
+    ensures { result ≡ (choose is_later b then Some after else None) }
 {
-    if b < LATER[0] {
-        return None;
-    }
-    if LATER[1] < b {
-        return None;
-    }
-    Some(after)
+    if is_later(b) { Some(after) } else { None }
 }
 
 // The next byte of a text. ASCII is tested before the table is searched.
@@ -143,13 +177,6 @@ pub fn char_step(c: Char, b: u8) -> Option<Char>
 
 // ---- code points
 
-// The bytes of a code point: the first `size` of `bytes`, with zeros after them.
-#[derive(Clone, Copy)]
-pub struct Packed {
-    pub bytes: [u8; 4],
-    pub size: usize,
-}
-
 // The low six bits as a continuation byte.
 fn six_bits(u: u32) -> u8
     ensures { result ≡ 0x80 + u % 0x40 }
@@ -158,39 +185,24 @@ fn six_bits(u: u32) -> u8
 }
 
 // The bytes of a code point, also of a surrogate. A number that is no code point has none.
-pub fn pack(u: u32) -> Packed
-    ensures { Packs u result.bytes result.size }
+pub fn pack(u: u32) -> Short<4>
+    ensures { result ≡ packed u }
 {
-    if u <= 0x7F {
-        return Packed {
-            bytes: [u as u8, 0, 0, 0],
-            size: 1,
-        };
-    }
-    if u <= 0x7FF {
-        let lead = ((u >> 6) | 0xC0) as u8;
-        return Packed {
-            bytes: [lead, six_bits(u), 0, 0],
-            size: 2,
-        };
-    }
-    if u <= 0xFFFF {
-        let lead = ((u >> 12) | 0xE0) as u8;
-        return Packed {
-            bytes: [lead, six_bits(u >> 6), six_bits(u), 0],
-            size: 3,
-        };
-    }
-    if u <= 0x10FFFF {
-        let lead = ((u >> 18) | 0xF0) as u8;
-        return Packed {
-            bytes: [lead, six_bits(u >> 12), six_bits(u >> 6), six_bits(u)],
-            size: 4,
-        };
-    }
-    Packed {
-        bytes: [0, 0, 0, 0],
-        size: 0,
+    match u {
+        0..=0x7F => Short::new([u as u8, 0, 0, 0], 1),
+        0x80..=0x7FF => {
+            let lead = ((u >> 6) | 0xC0) as u8;
+            Short::new([lead, six_bits(u), 0, 0], 2)
+        }
+        0x800..=0xFFFF => {
+            let lead = ((u >> 12) | 0xE0) as u8;
+            Short::new([lead, six_bits(u >> 6), six_bits(u), 0], 3)
+        }
+        0x10000..=0x10FFFF => {
+            let lead = ((u >> 18) | 0xF0) as u8;
+            Short::new([lead, six_bits(u >> 12), six_bits(u >> 6), six_bits(u)], 4)
+        }
+        _ => Short::new([0, 0, 0, 0], 0),
     }
 }
 

@@ -1,16 +1,12 @@
--- `utf8::later_byte` meets its contract, by its two tests.
-use borrow.Author.Tests.{le-leb, lt-leb}
+-- `utf8::later_byte` meets its contract, by its test.
 use Rattle.model.specs.rules.Base.{choose◌then◌else◌}
+use Rattle.model.proofs.Tests.{tests}
 use Rattle.utf8.proofs.later_byte.Goals as goal
 
-pub returns-then-b : goal.returns-then-b
+pub returns-then-is_later : goal.returns-then-is_later
 unfolding choose◌then◌else◌
-returns-then-b c = rw (lt-leb 0x80 _ c.if-b.true)
+returns-then-is_later c = search (tests, ← c.is_later.ensures, c.if-is_later.true)
 
-pub returns-then-b-2 : goal.returns-then-b-2
+pub returns-else-is_later : goal.returns-else-is_later
 unfolding choose◌then◌else◌
-returns-then-b-2 c = rw (le-leb 0x80 _ c.if-b.false, lt-leb _ 0xBF c.if-b-2.true)
-
-pub returns : goal.returns
-unfolding choose◌then◌else◌
-returns c = rw (le-leb 0x80 _ c.if-b.false, le-leb _ 0xBF c.if-b-2.false)
+returns-else-is_later c = search (tests, ← c.is_later.ensures, c.if-is_later.false)

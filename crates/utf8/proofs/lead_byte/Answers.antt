@@ -1,37 +1,17 @@
-use mathlib.Core.Path.{refl, sym, ◌∙◌}
-use native.Mathlib.Omega.{arith}
-use native.Mathlib.Numerals.{add-one}
-use lib.ListN.{get_or, drop_of_length-le}
-use borrow.Author.Tests.{le-leb, lt-leb}
-use Rattle.model.specs.rules.Base.{choose◌then◌else◌}
-use Rattle.model.specs.rules.Utf8.{row_of, leads, lead_byte}
-use Rattle.utf8.proofs.Table.{firsts, lasts, lead_at}
+-- `utf8::lead_byte` meets its contract: the row that is found is the first that covers the byte.
+use mathlib.Core.Path.{◌≡◌, sym, ap, ◌∙◌}
+use Rattle.std.proofs.Common.{rules}
+use Rattle.std.specs.List.{find}
+use Rattle.std.specs.Option.{option_map}
+use Rattle.std.proofs.lemmas.Iterator.{YieldsList-from_slice}
+use Rattle.std.proofs.lemmas.Iterator.Search.{find_from_yields_List}
+use borrow.Author.Tests.{tests}
+use Rattle.utf8.specs.declared.TheConstants.{ROWS}
+use Rattle.utf8.proofs.Table.{begun, covers, lead_found, mapped}
 use Rattle.utf8.proofs.lead_byte.Goals as goal
-use Rattle.utf8.proofs.lead_byte.Goals.{then-first-row+else-b-last, else-first-row}
-
-pub loop-row-init : goal.loop-row-init
-loop-row-init c = (omega arith, refl)
-
-pub returns-then-b-last : goal.returns-then-b-last
-unfolding row_of leads choose◌then◌else◌
-returns-then-b-last c =
-    let from_first = le-leb (get_or firsts c.loop-row.row 0) c.args.b c.if-first-row.true in
-    let to_last = le-leb c.args.b (get_or lasts c.loop-row.row 0) c.if-b-last.true in
-    sym (c.loop-row.invariant.1 ∙ lead_at c.loop-row.row c.args.b (omega arith) ∙ simp (from_first, to_last))
-
-pub loop-row-preserved : goal.loop-row-preserved
-unfolding row_of leads choose◌then◌else◌
-loop-row-preserved c =
-    let at = lead_at c.loop-row.row c.args.b (omega arith) in (
-      omega arith,
-      rw add-one (
-          c.loop-row.invariant.1 ∙ at ∙ elim c.if-first-row.branch [
-            | then-first-row+else-b-last w ↦ simp (le-leb _ _ w.if-first-row.true, lt-leb _ _ w.if-b-last.false)
-            | else-first-row w ↦ simp (lt-leb _ _ w.if-first-row.false)
-          ]
-          ),
-    )
 
 pub returns : goal.returns
-unfolding leads lead_byte
-returns c = sym (c.loop-row.invariant.1 ∙ rw (drop_of_length-le leads {i = c.loop-row.row} (omega arith)))
+returns c =
+    let found : option_map (λ r. r.now) c.find-row.result ≡ find (covers c.args.b) ROWS =
+    find_from_yields_List (covers c.args.b) _ _ c.find-row.result c.find-row.ensures.ran (YieldsList-from_slice ROWS cc) (λ x b q k. search (rules, tests)) in
+    mapped (λ r. r.now) begun c.find-row.result c.map.result c.map.ensures.cases (λ x y k. search rules) ∙ ap (option_map begun) found ∙ sym (lead_found c.args.b)
