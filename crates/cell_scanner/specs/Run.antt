@@ -1,5 +1,5 @@
 -- Runs of ordinary ASCII bytes, and the rest of a cell.
-use Rattle.std.specs.Prelude.{ℕ, suc, [], ◌∷◌}
+use Rattle.std.specs.Prelude.{ℕ, suc, [], ◌∷◌, Option, Some, None}
 use Rattle.model.specs.declared.Dialect.{Dialect}
 use Rattle.model.specs.declared.Char.{Char}
 use Rattle.model.specs.declared.Char.TheVariants.{Whole, Within}
@@ -11,8 +11,6 @@ use Rattle.model.specs.rules.Dialect.{delimiter_of, quote_of}
 use Rattle.model.specs.rules.Cell.{cell_step}
 unfoldable pub use Rattle.swar.specs.Words.{ordinary}
 use Rattle.swar.specs.Words.{passing}
-use Rattle.cell_scanner.specs.declared.RunStop.{RunStop}
-use Rattle.cell_scanner.specs.declared.RunStop.TheVariants.{At, Fallback}
 use Rattle.cell_scanner.specs.declared.CellEnd.{CellEnd}
 use Rattle.cell_scanner.specs.declared.CellEnd.TheVariants.{Stopped, Refused, Open}
 
@@ -32,23 +30,23 @@ cell_run d c i (b ∷ bs) =
     elim (cell_step d c b) [ More c' ↦ cell_run d c' (suc i) bs | Stop ↦ Stopped c i | Refuse e ↦ Refused e i ]
 
 -- the byte beside the quote at which a run ends
-abbrev pub text_stop : Char → ℕ → RunStop
-text_stop Whole q = At q
-text_stop (Within i) q = Fallback
+abbrev pub text_stop : Char → ℕ → Option ℕ
+text_stop Whole q = Some q
+text_stop (Within i) q = None
 
 -- in which cells ordinary bytes run: inside quotes, and in an unquoted cell, between characters
-abbrev pub run_stop : Dialect → Cell → RunStop
-run_stop d Fresh = Fallback
+abbrev pub run_stop : Dialect → Cell → Option ℕ
+run_stop d Fresh = None
 run_stop d (Quoted t) = text_stop t 0x5C
-run_stop d Closed = Fallback
-run_stop d Escape = Fallback
-run_stop d (Hex n) = Fallback
-run_stop d (InNumber n) = Fallback
-run_stop d (InWord w) = Fallback
+run_stop d Closed = None
+run_stop d Escape = None
+run_stop d (Hex n) = None
+run_stop d (InNumber n) = None
+run_stop d (InWord w) = None
 run_stop d (Plain t) = text_stop t (delimiter_of d)
-run_stop d Complete = Fallback
+run_stop d Complete = None
 
 -- the length of the run at the beginning
-abbrev pub run_length : Dialect → RunStop → Bytes → ℕ
-run_length d (At q) bs = leading (quote_of d) q bs
-run_length d Fallback bs = 0
+abbrev pub run_length : Dialect → Option ℕ → Bytes → ℕ
+run_length d (Some q) bs = leading (quote_of d) q bs
+run_length d None bs = 0
