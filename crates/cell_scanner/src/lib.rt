@@ -63,6 +63,7 @@ fn word_steps(s: &[u8], at: usize, stop: usize, p: u8, q: u8) -> RunSteps
 }
 
 // The end of the run of ordinary bytes from `at`, at most `stop`. It ends at a byte outside 20 to 7E hex, at `p` and at `q`.
+#[tactic(auto, using(crate::proofs::Runs::part_short))]
 fn run(s: &[u8], at: usize, stop: usize, p: u8, q: u8) -> usize
     requires { (at ≤ stop) × (stop ≤ length s.now) }
     ensures { result ≡ at + leading p q (slice s.now at stop) }
