@@ -8,7 +8,7 @@ use lib.Seq.{take_all, take-append-le, take-append-add, drop-append-add, drop-dr
 use Rattle.model.specs.rules.Base.{Bytes}
 use Rattle.model.specs.rules.Api.{slice}
 use Rattle.buffer.specs.Written.{written}
-use Rattle.buffer.proofs.BlockProgress.{drop_next, written_nil, set_written, Writing, start, put}
+use Rattle.buffer.proofs.BlockProgress.{set_written, Writing, put}
 
 -- ---- stores
 
@@ -23,58 +23,6 @@ before_written l o j x w e h =
     ∙ ap (λ (p : Bytes). p ++ rest) front
     ∙ append_assoc (take o l) (x ∷ []) rest
     ∙ ap (λ (k : ℕ). take o l ++ (x ∷ (w ++ drop k l))) end
-
-slice_four : (s : Bytes) (i : ℕ) → i + 4 ≤ length s → slice s i (i + 4) ≡ get_or s i 0 ∷ get_or s (i + 1) 0 ∷ get_or s (i + 2) 0 ∷ get_or s (i + 3) 0 ∷ []
-slice_four s i h =
-    let n : i + 4 - i ≡ 4 = omega arith in
-    let e0 = drop_next s i (i + 1) (omega arith) (omega arith) in
-    let e1 = drop_next s (i + 1) (i + 2) (omega arith) (omega arith) in
-    let e2 = drop_next s (i + 2) (i + 3) (omega arith) (omega arith) in
-    let e3 = drop_next s (i + 3) (i + 4) (omega arith) (omega arith) in
-    rw (n, e0, e1, e2, e3)
-
-slice_eight : (s : Bytes) (i : ℕ) → i + 8 ≤ length s
-    → slice s i (i + 8) ≡ get_or s i 0 ∷ get_or s (i + 1) 0 ∷ get_or s (i + 2) 0 ∷ get_or s (i + 3) 0 ∷ get_or s (i + 4) 0 ∷ get_or s (i + 5) 0 ∷ get_or s
-    (i + 6) 0 ∷ get_or s (i + 7) 0 ∷ []
-slice_eight s i h =
-    let n : i + 8 - i ≡ 8 = omega arith in
-    let e0 = drop_next s i (i + 1) (omega arith) (omega arith) in
-    let e1 = drop_next s (i + 1) (i + 2) (omega arith) (omega arith) in
-    let e2 = drop_next s (i + 2) (i + 3) (omega arith) (omega arith) in
-    let e3 = drop_next s (i + 3) (i + 4) (omega arith) (omega arith) in
-    let e4 = drop_next s (i + 4) (i + 5) (omega arith) (omega arith) in
-    let e5 = drop_next s (i + 5) (i + 6) (omega arith) (omega arith) in
-    let e6 = drop_next s (i + 6) (i + 7) (omega arith) (omega arith) in
-    let e7 = drop_next s (i + 7) (i + 8) (omega arith) (omega arith) in
-    rw (n, e0, e1, e2, e3, e4, e5, e6, e7)
-
--- the bytes of s from i on, stored from o on
-module _ (l : Bytes) (o : ℕ) (s : Bytes) (i : ℕ) where
-  abbrev at : ℕ → ℕ
-  at k = get_or s (i + k) 0
-
-  pub four_stored : o + 4 ≤ length l → i + 4 ≤ length s
-      → set (set (set (set l (o + 3) (at 3)) (o + 2) (at 2)) (o + 1) (at 1)) o (get_or s i 0) ≡ written l o (slice s i (i + 4))
-  four_stored h k =
-      let e3 = set_written l (o + 3) (at 3) (omega arith) in
-      let e2 = before_written l (o + 2) (o + 3) (at 2) (at 3 ∷ []) (omega arith) (omega arith) in
-      let e1 = before_written l (o + 1) (o + 2) (at 1) (at 2 ∷ at 3 ∷ []) (omega arith) (omega arith) in
-      let e0 = before_written l o (o + 1) (get_or s i 0) (at 1 ∷ at 2 ∷ at 3 ∷ []) (omega arith) (omega arith) in
-      rw (slice_four s i k, e3, e2, e1, e0)
-
-  pub eight_stored : o + 8 ≤ length l → i + 8 ≤ length s
-      → set (set (set (set (set (set (set (set l (o + 7) (at 7)) (o + 6) (at 6)) (o + 5) (at 5)) (o + 4) (at 4)) (o + 3) (at 3)) (o + 2)
-      (at 2)) (o + 1) (at 1)) o (get_or s i 0) ≡ written l o (slice s i (i + 8))
-  eight_stored h k =
-      let e7 = set_written l (o + 7) (at 7) (omega arith) in
-      let e6 = before_written l (o + 6) (o + 7) (at 6) (at 7 ∷ []) (omega arith) (omega arith) in
-      let e5 = before_written l (o + 5) (o + 6) (at 5) (at 6 ∷ at 7 ∷ []) (omega arith) (omega arith) in
-      let e4 = before_written l (o + 4) (o + 5) (at 4) (at 5 ∷ at 6 ∷ at 7 ∷ []) (omega arith) (omega arith) in
-      let e3 = before_written l (o + 3) (o + 4) (at 3) (at 4 ∷ at 5 ∷ at 6 ∷ at 7 ∷ []) (omega arith) (omega arith) in
-      let e2 = before_written l (o + 2) (o + 3) (at 2) (at 3 ∷ at 4 ∷ at 5 ∷ at 6 ∷ at 7 ∷ []) (omega arith) (omega arith) in
-      let e1 = before_written l (o + 1) (o + 2) (at 1) (at 2 ∷ at 3 ∷ at 4 ∷ at 5 ∷ at 6 ∷ at 7 ∷ []) (omega arith) (omega arith) in
-      let e0 = before_written l o (o + 1) (get_or s i 0) (at 1 ∷ at 2 ∷ at 3 ∷ at 4 ∷ at 5 ∷ at 6 ∷ at 7 ∷ []) (omega arith) (omega arith) in
-      rw (slice_eight s i k, e7, e6, e5, e4, e3, e2, e1, e0)
 
 -- the first, the middle and the last of one to three bytes
 pub few_stored : (l : Bytes) (o : ℕ) (s : Bytes) (m n : ℕ) → m ≡ length s / 2 → n ≡ length s - 1 → 0 < length s → length s ≤ 3 → o + length s ≤ length l
@@ -122,13 +70,6 @@ over_end d at w k v h j l =
     ap₂ (λ (x y : Bytes). x ++ (v ++ y)) front back ∙ simp append_assoc
 
 -- ---- a text block by block
-
-pub no_block : (l : Bytes) (at : ℕ) (src : Bytes) → length src ≡ 0 → l ≡ written l at src
-no_block l at [] e = sym (written_nil l at)
-no_block l at (b ∷ src) e = absurd (omega arith)
-
-pub first_block : {old : Bytes} {at : ℕ} {src : Bytes} → at + length src ≤ length old → Writing old at src old (at + 0) (drop 0 src)
-first_block {old} {at} {src} h = let here : at + 0 ≡ at = omega arith in rw here (start old at src h)
 
 -- the first i bytes of src are written
 module _ {old : Bytes} {at : ℕ} {src out : Bytes} {o : ℕ} (i : ℕ) (p : Writing old at src out o (drop i src)) (n : ℕ) where

@@ -7,11 +7,9 @@ use Prim.Native.Nat.{ℕ, ◌+◌, ◌≤◌}
 use native.Mathlib.Nat.{add_assoc}
 use native.Mathlib.Omega.{arith}
 use lib.ListN.{length, length-append}
-use lib.Dec.{leb}
-use borrow.Author.Tests.{le-leb, leb-true, leb-false}
 use Rattle.model.specs.rules.Base.{Bytes, choose◌then◌else◌}
 use Rattle.model.specs.rules.Report.{MAXFILE}
-use Rattle.model.proofs.Tests.{split, impossible}
+use Rattle.model.proofs.Tests.{impossible}
 use Rattle.buffer.proofs.BlockProgress.{written_more}
 use Rattle.buffer.specs.Writes.{written, measure, Room, WrittenAt}
 pub use Rattle.buffer.proofs.BlockProgress.{

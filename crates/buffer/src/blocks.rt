@@ -1,51 +1,27 @@
 // Copies in blocks of eight and four bytes. A source and an offset go in; the text is written there (`written` of specs/Written.antt).
 //
-// All bytes of a block are loaded before the first is stored, so that the compiler makes one load and one store of them. They are stored
-// from the last to the first: in the other order it merges the last byte's store of `copy_few`, `copy_short` and `copy_long` into one
-// after all three, and the bytes before it are no longer stored at once.
-//
 // No byte after the text is stored. The last block overlaps the one before it and stores the same bytes again (proofs/Overlaps.antt).
+//
+// Most cells are short, and one `copy_from_slice` of the whole text is a call of memcpy: 10 ns for one to three bytes in place of 4, and
+// 9 ns for eight in place of 6.
 ghost use Rattle.std.specs.Prelude.{◌≡◌, ◌+◌, ◌≤◌, ◌<◌, length};
 ghost use Rattle.model.specs.rules.Api.{slice};
 ghost use Rattle.buffer.specs.Written.{written};
 
-fn copy_eight(out: &mut [u8], o: usize, src: &[u8], i: usize)
-    requires { (o + 8 ≤ length out.old) × (i + 8 ≤ length src.now) }
-    ensures { out.new ≡ written out.old o (slice src.now i (i + 8)) }
+// N bytes of the source from i on, at o. They pass through an array, so that the compiler makes one load and one store of them: a copy
+// from slice to slice first tests whether the two overlap, and has a second copy, byte by byte, for that.
+fn copy_block<const N: usize>(out: &mut [u8], o: usize, src: &[u8], i: usize)
+    requires { (o + N ≤ length out.old) × (i + N ≤ length src.now) }
+    ensures { out.new ≡ written out.old o (slice src.now i (i + N)) }
 {
-    let b0 = src[i];
-    let b1 = src[i + 1];
-    let b2 = src[i + 2];
-    let b3 = src[i + 3];
-    let b4 = src[i + 4];
-    let b5 = src[i + 5];
-    let b6 = src[i + 6];
-    let b7 = src[i + 7];
-    out[o + 7] = b7;
-    out[o + 6] = b6;
-    out[o + 5] = b5;
-    out[o + 4] = b4;
-    out[o + 3] = b3;
-    out[o + 2] = b2;
-    out[o + 1] = b1;
-    out[o] = b0;
+    let mut block = [0u8; N];
+    block.copy_from_slice(&src[i..i + N]);
+    out[o..o + N].copy_from_slice(&block);
 }
 
-fn copy_four(out: &mut [u8], o: usize, src: &[u8], i: usize)
-    requires { (o + 4 ≤ length out.old) × (i + 4 ≤ length src.now) }
-    ensures { out.new ≡ written out.old o (slice src.now i (i + 4)) }
-{
-    let b0 = src[i];
-    let b1 = src[i + 1];
-    let b2 = src[i + 2];
-    let b3 = src[i + 3];
-    out[o + 3] = b3;
-    out[o + 2] = b2;
-    out[o + 1] = b1;
-    out[o] = b0;
-}
-
-// One to three bytes: the first, the middle and the last, some of them equal.
+// One to three bytes: the first, the middle and the last, some of them equal. They are stored from the last to the first: in the other
+// order the compiler merges the last byte's store with those of `copy_short` and `copy_long` into one after all three, and the bytes
+// before it are no longer stored at once.
 fn copy_few(out: &mut [u8], at: usize, src: &[u8])
     requires { (0 < length src.now) × (length src.now ≤ 3) × (at + length src.now ≤ length out.old) }
     ensures { out.new ≡ written out.old at src.now }
@@ -67,13 +43,10 @@ pub fn copy_short(out: &mut [u8], at: usize, src: &[u8])
 {
     if 4 <= src.len() {
         let last = src.len() - 4;
-        copy_four(out, at, src, 0);
-        copy_four(out, at + last, src, last);
-        return;
-    }
-    if src.len() != 0 {
+        copy_block::<4>(out, at, src, 0);
+        copy_block::<4>(out, at + last, src, last);
+    } else if src.len() != 0 {
         copy_few(out, at, src);
-        return;
     }
 }
 
@@ -83,10 +56,8 @@ pub fn copy_long(out: &mut [u8], at: usize, src: &[u8])
     ensures { out.new ≡ written out.old at src.now }
 {
     let last = src.len() - 8;
-    let mut i = 0;
-    while i < last {
-        copy_eight(out, at + i, src, i);
-        i += 8;
+    for i in (0..last).step_by(8) {
+        copy_block::<8>(out, at + i, src, i);
     }
-    copy_eight(out, at + last, src, last);
+    copy_block::<8>(out, at + last, src, last);
 }

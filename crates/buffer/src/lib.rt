@@ -21,10 +21,10 @@ pub fn copy(out: &mut [u8], at: usize, src: &[u8]) -> usize
         × (out.new ≡ written out.old at src.now) }
 {
     if src.len() < 8 {
-        crate::blocks::copy_short(out, at, src);
-        return at + src.len();
+        blocks::copy_short(out, at, src);
+    } else {
+        blocks::copy_long(out, at, src);
     }
-    crate::blocks::copy_long(out, at, src);
     at + src.len()
 }
 

@@ -2,15 +2,11 @@
 use mathlib.Core.Path.{◌≡◌, sym, ◌∙◌}
 use mathlib.Core.Bool.{Bool, true, false}
 use Prim.Native.Nat.{ℕ, ◌+◌, ◌<◌, ◌≤◌}
-use native.Mathlib.Omega.{arith}
 use lib.ListN.{length, get_or}
 use Rattle.model.specs.rules.Base.{Bytes, same}
 use Rattle.model.specs.rules.Names.{fold_name}
 use Rattle.model.proofs.name_laws.Folding.{fold_length}
 use Rattle.model.proofs.name_laws.SameBytes as bytes
-use Rattle.case_fold.specs.declared.AsciiNames.{AsciiNames}
-use Rattle.case_fold.specs.declared.AsciiNames.TheVariants.{Same, Different}
-use Rattle.case_fold.specs.AsciiNames.{ComparedAsAscii, same_in_ascii, different_in_ascii, falls_back}
 
 module _ (a b : Bytes) where
   -- names of different lengths are different
@@ -30,15 +26,3 @@ module _ (a b : Bytes) where
 
     pub same_next : get_or (fold_name a) i 0 ≡ get_or (fold_name b) i 0 → same_from i ≡ same_from (i + 1)
     same_next e = bytes.same_next (fold_name a) (fold_name b) i (rw (fold_length a) h) (rw (fold_length b) k) e
-
-  -- ---- names compared as ASCII
-
-  pub found_same : (r : AsciiNames) → ComparedAsAscii a b r → r ≡ Same → same (fold_name a) (fold_name b) ≡ true
-  found_same r (same_in_ascii e) z = e
-  found_same r (different_in_ascii e) z = let z : ◌≡◌ {A = ℕ} 0 1 = cc in absurd (omega arith)
-  found_same r falls_back z = let z : ◌≡◌ {A = ℕ} 0 1 = cc in absurd (omega arith)
-
-  pub found_different : (r : AsciiNames) → ComparedAsAscii a b r → r ≡ Different → same (fold_name a) (fold_name b) ≡ false
-  found_different r (same_in_ascii e) z = let z : ◌≡◌ {A = ℕ} 0 1 = cc in absurd (omega arith)
-  found_different r (different_in_ascii e) z = e
-  found_different r falls_back z = let z : ◌≡◌ {A = ℕ} 0 1 = cc in absurd (omega arith)

@@ -2,8 +2,8 @@
 -- Assumes nothing.
 use mathlib.Core.Path.{◌≡◌, ◌∙◌}
 use mathlib.Core.Bool.{true, false, and-false}
-use mathlib.Core.List.{List, ◌∷◌}
-use Prim.Native.Nat.{ℕ, zero, suc, ◌+◌, ◌-◌, ◌<◌, ◌≤◌}
+use mathlib.Core.List.{List}
+use Prim.Native.Nat.{ℕ, ◌+◌, ◌<◌, ◌≤◌}
 use native.Mathlib.Omega.{arith}
 use lib.ListN.{get_or}
 use lib.Dec.{leb}
@@ -55,10 +55,6 @@ module _ (a b c : ℕ) where
   pub at_alone : is_pair a b ≡ false → is_pair b c ≡ false → fold_at a b c ≡ fold_byte b
   unfolding fold_at choose◌then◌else◌
   at_alone e k = rw (e, k)
-
-pub before_place : (s : List ℕ) (i : ℕ) → (i ≡ 0 → ⊥) → get_or s (i - 1) 0 ≡ get_or (0 ∷ s) i 0
-before_place s zero n = absurd (n (omega arith))
-before_place s (suc i) n = let e : suc i - 1 ≡ i = omega arith in rw e
 
 -- ---- bytes of ASCII
 

@@ -120,15 +120,11 @@ const FOLDED: [u16; 1280] = [
     0x4FA, 0x4FB, 0x4FC, 0x4FD, 0x4FE, 0x4FF,
 ];
 
-// A code point of one byte or two.
-fn fold_point(table: &[u16; 1280], u: u16) -> u16
-    requires { FoldTable table.now }
-    ensures { result ≡ fold_point u }
-{
-    if u < 1280 {
-        return table[u as usize];
-    }
-    u
+// The table as it is used, which the proof holds against the rule.
+#[derive(Drop)]
+struct Folding {
+    table: [u16; 1280],
+    ghost follows: { FoldTable table },
 }
 
 // ---- bytes of a folded name
@@ -137,30 +133,10 @@ fn fold_point(table: &[u16; 1280], u: u16) -> u16
 fn is_pair(a: u8, b: u8) -> bool
     ensures { result ≡ is_pair a b }
 {
-    if a < 0xC2 {
-        return false;
-    }
-    if 0xDF < a {
-        return false;
-    }
-    if b < 0x80 {
-        return false;
-    }
-    if 0xBF < b {
-        return false;
-    }
-    true
+    matches!(a, 0xC2..=0xDF) && matches!(b, 0x80..=0xBF)
 }
 
-// The code point of two bytes, folded.
-fn folded_pair(table: &[u16; 1280], a: u8, b: u8) -> u16
-    requires fold_table { FoldTable table.now }
-    requires b_value { is_pair a b ≡ true }
-    ensures { (result ≡ fold_point (pair_point a b)) × (0x80 ≤ result) × (result ≤ 0x7FF) }
-{
-    fold_point(table, (a as u16 - 0xC0) * 0x40 + (b as u16 - 0x80))
-}
-
+#[tactic(auto, using(model::proofs::name_laws::Folding::pack_pair))]
 fn second_of(u: u16) -> u8
     requires { (0x80 ≤ u) × (u ≤ 0x7FF) }
     ensures { result ≡ second_of u }
@@ -168,6 +144,7 @@ fn second_of(u: u16) -> u8
     (0x80 + u % 0x40) as u8
 }
 
+#[tactic(auto, using(model::proofs::name_laws::Folding::pack_pair))]
 fn first_of(u: u16) -> u8
     requires { (0x80 ≤ u) × (u ≤ 0x7FF) }
     ensures { result ≡ first_of u }
@@ -176,137 +153,131 @@ fn first_of(u: u16) -> u8
 }
 
 // A byte that is no part of a pair: A to Z as a to z, without the table.
+#[tactic(auto, using(crate::proofs::Letters::low_stays, crate::proofs::Letters::letter_falls, crate::proofs::Letters::high_stays))]
 fn lower_case(b: u8) -> u8
     ensures { result ≡ fold_byte b }
 {
-    if b < 0x41 {
-        return b;
+    if matches!(b, b'A'..=b'Z') {
+        b + 0x20
+    } else {
+        b
     }
-    if 0x5A < b {
-        return b;
-    }
-    b + 0x20
-}
-
-// A byte of a folded name, by itself and its neighbours.
-fn byte_between(table: &[u16; 1280], a: u8, b: u8, c: u8) -> u8
-    requires { FoldTable table.now }
-    ensures { result ≡ fold_at a b c }
-{
-    if is_pair(a, b) {
-        return second_of(folded_pair(table, a, b));
-    }
-    if is_pair(b, c) {
-        return first_of(folded_pair(table, b, c));
-    }
-    lower_case(b)
 }
 
 // The byte at an offset, and 0 where there is none.
 fn byte_or_none(s: &[u8], i: usize) -> u8
     ensures { result ≡ get_or s.now i 0 }
 {
-    if i < s.len() {
-        return s[i];
-    }
-    0
+    s.get(i).copied().unwrap_or(0)
 }
 
 fn byte_before(s: &[u8], i: usize) -> u8
     ensures { result ≡ get_or (0 ∷ s.now) i 0 }
 {
-    if i == 0 {
-        return 0;
-    }
-    byte_or_none(s, i - 1)
+    if i == 0 { 0 } else { byte_or_none(s, i - 1) }
 }
 
-// The byte of a folded name at an offset.
-fn byte_at(table: &[u16; 1280], s: &[u8], i: usize) -> u8
-    requires fold_table { FoldTable table.now }
-    requires i_in_bounds { i < length s.now }
-    ensures { result ≡ get_or (fold_name s.now) i 0 }
-{
-    byte_between(table, byte_before(s, i), s[i], byte_or_none(s, i + 1))
+impl Folding {
+    // A code point of one byte or two.
+    #[tactic(auto, using(model::proofs::name_laws::Folding::stays_above))]
+    fn point(&self, u: u16) -> u16
+        ensures { result ≡ fold_point u }
+    {
+        if u < 1280 { self.table[u as usize] } else { u }
+    }
+
+    // The code point of two bytes, folded.
+    fn pair(&self, a: u8, b: u8) -> u16
+        requires { is_pair a b ≡ true }
+        ensures { (result ≡ fold_point (pair_point a b)) × (0x80 ≤ result) × (result ≤ 0x7FF) }
+    {
+        self.point((a as u16 - 0xC0) * 0x40 + (b as u16 - 0x80))
+    }
+
+    // A byte of a folded name, by itself and its neighbours.
+    #[tactic(auto, using(crate::proofs::Letters::at_second, crate::proofs::Letters::at_first, crate::proofs::Letters::at_alone))]
+    fn byte_between(&self, a: u8, b: u8, c: u8) -> u8
+        ensures { result ≡ fold_at a b c }
+    {
+        if is_pair(a, b) {
+            return second_of(self.pair(a, b));
+        }
+        if is_pair(b, c) {
+            return first_of(self.pair(b, c));
+        }
+        lower_case(b)
+    }
+
+    // The byte of a folded name at an offset.
+    #[tactic(auto, using(model::proofs::name_laws::Folding::fold_at_lem))]
+    fn byte_at(&self, s: &[u8], i: usize) -> u8
+        requires { i < length s.now }
+        ensures { result ≡ get_or (fold_name s.now) i 0 }
+    {
+        self.byte_between(byte_before(s, i), s[i], byte_or_none(s, i + 1))
+    }
+
+    // Whether two folded names have the same byte at an offset. Bytes beyond ASCII that are the same in both names are folded too:
+    // U+0386 (CE 86) stays, U+03A6 (CE A6) folds to CF 86.
+    #[tactic(auto, using(crate::proofs::Letters::ascii_at))]
+    fn same_at(&self, a: &[u8], b: &[u8], i: usize) -> bool
+        requires { (i < length a.now) × (i < length b.now) }
+        ensures { result ≡ eqb (get_or (fold_name a.now) i 0) (get_or (fold_name b.now) i 0) }
+    {
+        let x = a[i];
+        let y = b[i];
+        if x < 0x80 && y < 0x80 {
+            return lower_case(x) == lower_case(y);
+        }
+        self.byte_at(a, i) == self.byte_at(b, i)
+    }
+
+    #[tactic(auto, using(crate::proofs::FoldedNames::same_end, crate::proofs::FoldedNames::same_differs, crate::proofs::FoldedNames::same_next))]
+    fn same_names(&self, a: &[u8], b: &[u8]) -> bool
+        requires { length a.now ≡ length b.now }
+        ensures { result ≡ same (fold_name a.now) (fold_name b.now) }
+    {
+        for i in 0..a.len() {
+            if !self.same_at(a, b, i) {
+                return false;
+            }
+        }
+        true
+    }
 }
 
 // ---- two names
 
-// Two names of the same length in ASCII, or that a byte of ASCII distinguishes; of others it claims nothing.
-#[derive(Clone, Copy)]
-enum AsciiNames {
-    Same,
-    Different,
-    Fallback,
-}
-
-fn compare_ascii(a: &[u8], b: &[u8]) -> AsciiNames
+// Whether two names of the same length are the same, if they are in ASCII or if a byte of ASCII distinguishes them.
+#[tactic(auto, using(crate::proofs::Letters::ascii_at, crate::proofs::FoldedNames::same_end, crate::proofs::FoldedNames::same_differs, crate::proofs::FoldedNames::same_next))]
+fn compare_ascii(a: &[u8], b: &[u8]) -> Option<bool>
     requires { length a.now ≡ length b.now }
     ensures { ComparedAsAscii a.now b.now result }
 {
-    let mut i = 0;
-    while i < a.len() {
+    for i in 0..a.len() {
         let x = a[i];
         let y = b[i];
-        if 0x7F < x {
-            return AsciiNames::Fallback;
-        }
-        if 0x7F < y {
-            return AsciiNames::Fallback;
+        if 0x7F < x || 0x7F < y {
+            return None;
         }
         if lower_case(x) != lower_case(y) {
-            return AsciiNames::Different;
-        }
-        i += 1;
-    }
-    AsciiNames::Same
-}
-
-// Whether two folded names have the same byte at an offset. Bytes beyond ASCII that are the same in both names are folded too: U+0386
-// (CE 86) stays, U+03A6 (CE A6) folds to CF 86.
-fn same_at(table: &[u16; 1280], a: &[u8], b: &[u8], i: usize) -> bool
-    requires fold_table { FoldTable table.now }
-    requires i_in_bounds { (i < length a.now) × (i < length b.now) }
-    ensures { result ≡ eqb (get_or (fold_name a.now) i 0) (get_or (fold_name b.now) i 0) }
-{
-    let x = a[i];
-    let y = b[i];
-    if x < 0x80 {
-        if y < 0x80 {
-            return lower_case(x) == lower_case(y);
+            return Some(false);
         }
     }
-    byte_at(table, a, i) == byte_at(table, b, i)
-}
-
-fn same_by_table(table: &[u16; 1280], a: &[u8], b: &[u8]) -> bool
-    requires fold_table { FoldTable table.now }
-    requires a_len { length a.now ≡ length b.now }
-    ensures { result ≡ same (fold_name a.now) (fold_name b.now) }
-{
-    let mut i = 0;
-    while i < a.len() {
-        if !same_at(table, a, b, i) {
-            return false;
-        }
-        i += 1;
-    }
-    true
+    Some(true)
 }
 
 // Whether two names are the same in TDIF.
+#[tactic(auto, using(crate::proofs::FoldedNames::different_lengths))]
 pub fn same_name(a: &[u8], b: &[u8]) -> bool
     ensures { result ≡ same (fold_name a.now) (fold_name b.now) }
 {
     if a.len() != b.len() {
         return false;
     }
-    match compare_ascii(a, b) {
-        AsciiNames::Same => true,
-        AsciiNames::Different => false,
-        AsciiNames::Fallback => {
-            let table = FOLDED;
-            same_by_table(&table, a, b)
-        }
+    if let Some(same) = compare_ascii(a, b) {
+        return same;
     }
+    let folding = Folding { table: FOLDED };
+    folding.same_names(a, b)
 }

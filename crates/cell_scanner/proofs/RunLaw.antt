@@ -5,7 +5,7 @@ use Prim.Native.Nat.{ℕ, zero, suc, ◌+◌, ◌-◌, ◌≤◌, ◌<◌}
 use native.Mathlib.Omega.{arith}
 use mathlib.Core.Path.{◌≡◌, refl, sym, ap, ◌∙◌}
 use mathlib.Core.Bool.{Bool, true, false}
-use Rattle.std.specs.Prelude.{Option}
+use Rattle.std.specs.Prelude.{Option, Some, None}
 use mathlib.Core.List.{List, [], ◌∷◌, ◌++◌, append_assoc, append-nil}
 use lib.ListN.{length, take, drop, length-append, take-append-drop}
 use lib.Seq.{drop-drop}
@@ -68,8 +68,6 @@ use Rattle.model.proofs.file_laws.FileSteps.{
   ends_cr,
   step_transition,
 }
-use Rattle.cell_scanner.specs.declared.RunStop.{RunStop}
-use Rattle.cell_scanner.specs.declared.RunStop.TheVariants.{At, Fallback}
 use Rattle.model.specs.rules.Api.{slice}
 use Rattle.cell_scanner.specs.Run.{ordinary, leading, run_stop, run_length}
 use Rattle.cell_scanner.specs.RunLaw.{Place, in_cell_lem, in_comment, elsewhere, place_in, run_at, ran_at, run_in, ran, Lies, InLimits, RunLaw}
@@ -127,7 +125,7 @@ module _ (d : Dialect) (target : Option Target) where
       (r : Read) (b : ℕ) (xs : Bytes) → r.state ≡ f → ran_at k r [] ≡ r → ordinary p q b ≡ true → InLimits (ran_at k r (b ∷ xs)) → read_byte d
       target r b ≡ going (ran_at k r (b ∷ []))
 
-  one_of_cell : (c : Cell) (q : ℕ) → run_stop d c ≡ At q → One (in_cell_lem c) (quote_of d) q (Inside c)
+  one_of_cell : (c : Cell) (q : ℕ) → run_stop d c ≡ Some q → One (in_cell_lem c) (quote_of d) q (Inside c)
   unfolding file_step in_cell ran_at
   one_of_cell c q e r b xs g s o l =
       let h : r.offset + suc (length xs) ≤ MAXFILE = l.file in
@@ -156,10 +154,10 @@ module _ (d : Dialect) (target : Option Target) where
   none k [] e r s = ap going (sym s)
   none k (b ∷ xs) e r s = absurd (omega arith)
 
-  in_cell_run : (c : Cell) (x : RunStop) → run_stop d c ≡ x → (r : Read) (xs : Bytes) → r.state ≡ Inside c → ran_at (in_cell_lem c) r [] ≡ r
+  in_cell_run : (c : Cell) (x : Option ℕ) → run_stop d c ≡ x → (r : Read) (xs : Bytes) → r.state ≡ Inside c → ran_at (in_cell_lem c) r [] ≡ r
       → run_length d x xs ≡ length xs → InLimits (ran_at (in_cell_lem c) r xs) → read_from d target (going r) xs ≡ going (ran_at (in_cell_lem c) r xs)
-  in_cell_run c (At q) h r xs g s e l = many (in_cell_lem c) (quote_of d) q (Inside c) (one_of_cell c q h) xs e r g s l
-  in_cell_run c Fallback h r xs g s e l = none (in_cell_lem c) xs e r s
+  in_cell_run c (Some q) h r xs g s e l = many (in_cell_lem c) (quote_of d) q (Inside c) (one_of_cell c q h) xs e r g s l
+  in_cell_run c None h r xs g s e l = none (in_cell_lem c) xs e r s
 
   in_comment_run : (t : Char) (r : Read) (xs : Bytes) → r.state ≡ Comment t → ran_at (in_comment t) r [] ≡ r
       → run_at d (in_comment t) xs ≡ length xs → InLimits (ran_at (in_comment t) r xs) → read_from d target (going r) xs ≡ going (ran_at (in_comment t) r xs)
@@ -209,9 +207,9 @@ pub run_take : (d : Dialect) (k : Place) (n : ℕ) (bs : Bytes) → n ≤ run_at
 unfolding run_at
 run_take d (in_cell_lem c) n bs h = go (run_stop d c) h
   where
-    go : (x : RunStop) → n ≤ run_length d x bs → run_length d x (take n bs) ≡ length (take n bs)
-    go (At q) g = leading_take (quote_of d) q n bs g
-    go Fallback g = take_none n bs g
+    go : (x : Option ℕ) → n ≤ run_length d x bs → run_length d x (take n bs) ≡ length (take n bs)
+    go (Some q) g = leading_take (quote_of d) q n bs g
+    go None g = take_none n bs g
 run_take d (in_comment Whole) n bs h = leading_take 0 0 n bs h
 run_take d (in_comment (Within i)) n bs h = take_none n bs h
 run_take d elsewhere n bs h = take_none n bs h
@@ -240,9 +238,9 @@ run_fewer : (d : Dialect) (k : Place) (n : ℕ) (bs : Bytes) → run_at d k (tak
 unfolding run_at
 run_fewer d (in_cell_lem c) n bs = go (run_stop d c)
   where
-    go : (x : RunStop) → run_length d x (take n bs) ≤ run_length d x bs
-    go (At q) = leading_fewer (quote_of d) q n bs
-    go Fallback = omega arith
+    go : (x : Option ℕ) → run_length d x (take n bs) ≤ run_length d x bs
+    go (Some q) = leading_fewer (quote_of d) q n bs
+    go None = omega arith
 run_fewer d (in_comment Whole) n bs = leading_fewer 0 0 n bs
 run_fewer d (in_comment (Within i)) n bs = omega arith
 run_fewer d elsewhere n bs = omega arith

@@ -18,15 +18,13 @@ use Rattle.model.specs.declared.CellStep.TheVariants.{More, Stop, Refuse}
 use Rattle.model.specs.declared.ByteFault.{ByteFault}
 use Rattle.model.specs.declared.FileState.TheVariants.{Comment}
 use Rattle.model.specs.declared.ByteRole.TheVariants.{Outside}
-use Rattle.std.specs.Prelude.{Ok}
+use Rattle.std.specs.Prelude.{Ok, Option, Some, None}
 use Rattle.model.specs.rules.Base.{Bytes, choose◌then◌else◌, within, ◌is◌, QUOTE, CR, LF}
 use Rattle.model.specs.rules.Dialect.{quote_of, delimiter_of}
 use Rattle.model.specs.rules.Cell.{quoted_byte, plain_byte, cell_step}
 use Rattle.model.specs.rules.File.{file_step}
 use Rattle.model.proofs.Tests.{impossible, within_true}
 use Rattle.model.proofs.cell_laws.Utf8.{ascii_whole}
-use Rattle.cell_scanner.specs.declared.RunStop.{RunStop}
-use Rattle.cell_scanner.specs.declared.RunStop.TheVariants.{At, Fallback}
 use Rattle.cell_scanner.specs.declared.CellEnd.TheVariants.{Stopped, Refused, Open}
 use Rattle.model.specs.rules.Api.{slice}
 use Rattle.swar.proofs.FlaggedPrefix.{passing_short}
@@ -59,7 +57,7 @@ leading_none s i p q = rw (part_end s i) (omega arith)
 
 -- ---- ordinary bytes leave a cell's state unchanged
 
-no_run : {A : Type 0} {q : ℕ} → Fallback ≡ At q → A
+no_run : {A : Type 0} {q : ℕ} → None ≡ Some q → A
 no_run e = let z : ◌≡◌ {A = ℕ} 0 1 = cc in absurd (omega arith)
 
 and_parts : (x y z : Bool) → (x && not y && not z) ≡ true → (x ≡ true) × (y ≡ false) × (z ≡ false)
@@ -109,7 +107,7 @@ plain_runs d b e =
     rw (k.not_first, k.not_second, ne_eqb b CR (omega arith), ne_eqb b LF (omega arith), ascii_whole b (omega arith))
 
 -- in a cell with a run stop every ordinary byte leaves the state unchanged
-pub run_step : (d : Dialect) (c : Cell) (q b : ℕ) → run_stop d c ≡ At q → ordinary (quote_of d) q b ≡ true → cell_step d c b ≡ More c
+pub run_step : (d : Dialect) (c : Cell) (q b : ℕ) → run_stop d c ≡ Some q → ordinary (quote_of d) q b ≡ true → cell_step d c b ≡ More c
 run_step d Fresh q b e h = no_run e
 run_step d (Quoted Whole) q b e h = let k : 0x5C ≡ q = cc in quoted_runs d b (rw k h)
 run_step d (Quoted (Within i)) q b e h = no_run e
@@ -133,7 +131,7 @@ comment_step d b e =
 
 -- ---- the rest of a cell
 
-run_list : (d : Dialect) (c : Cell) (q : ℕ) → run_stop d c ≡ At q → (i : ℕ) (bs : Bytes)
+run_list : (d : Dialect) (c : Cell) (q : ℕ) → run_stop d c ≡ Some q → (i : ℕ) (bs : Bytes)
     → cell_run d c i bs ≡ cell_run d c (i + leading (quote_of d) q bs) (drop (leading (quote_of d) q bs) bs)
 unfolding leading cell_run choose◌then◌else◌
 run_list d c q e i [] = refl
@@ -164,12 +162,12 @@ module _ (d : Dialect) (c : Cell) (s : Bytes) (i stop : ℕ) where
       (slice s (i + run_length d (run_stop d c) (slice s i stop)) stop)
   run_rest = go (run_stop d c) refl
     where
-      go : (r : RunStop) → run_stop d c ≡ r
+      go : (r : Option ℕ) → run_stop d c ≡ r
           → cell_run d c i (slice s i stop) ≡ cell_run d c (i + run_length d r (slice s i stop)) (slice s (i + run_length d r (slice s i stop)) stop)
-      go (At q) e =
+      go (Some q) e =
           run_list d c q e i (slice s i stop)
           ∙ ap (λ (l : Bytes). cell_run d c (i + leading (quote_of d) q (slice s i stop)) l) (drop_part s i (leading (quote_of d) q (slice s i stop)) stop)
-      go Fallback e = let n : i ≡ i + 0 = omega arith in ap (λ (k : ℕ). cell_run d c k (slice s k stop)) n
+      go None e = let n : i ≡ i + 0 = omega arith in ap (λ (k : ℕ). cell_run d c k (slice s k stop)) n
 
   module _ (h : i < stop) (k : stop ≤ length s) where
     pub rest_more : (t : Cell) → cell_step d c (get_or s i 0) ≡ More t → cell_run d c i (slice s i stop) ≡ cell_run d t (i + 1) (slice s (i + 1) stop)
@@ -197,6 +195,6 @@ part_short p q s i stop h k =
     let m : length (slice s i stop) ≡ stop - i = length-take-le (stop - i) (drop i s) (omega arith) in
     omega arith
 
-pub run_short : (d : Dialect) (r : RunStop) (s : Bytes) (i stop : ℕ) → i ≤ stop → stop ≤ length s → i + run_length d r (slice s i stop) ≤ stop
-run_short d (At q) s i stop h k = part_short (quote_of d) q s i stop h k
-run_short d Fallback s i stop h k = omega arith
+pub run_short : (d : Dialect) (r : Option ℕ) (s : Bytes) (i stop : ℕ) → i ≤ stop → stop ≤ length s → i + run_length d r (slice s i stop) ≤ stop
+run_short d (Some q) s i stop h k = part_short (quote_of d) q s i stop h k
+run_short d None s i stop h k = omega arith

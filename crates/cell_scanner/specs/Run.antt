@@ -1,6 +1,5 @@
 -- Runs of ordinary ASCII bytes, and the rest of a cell.
-use Rattle.std.specs.Prelude.{Option, None, Some}
-use Rattle.std.specs.Prelude.{ℕ, suc, [], ◌∷◌}
+use Rattle.std.specs.Prelude.{ℕ, suc, [], ◌∷◌, Option, Some, None}
 use Rattle.model.specs.declared.Dialect.{Dialect}
 use Rattle.model.specs.declared.Char.{Char}
 use Rattle.model.specs.declared.Char.TheVariants.{Whole, Within}

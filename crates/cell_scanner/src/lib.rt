@@ -5,36 +5,34 @@
 
 ghost use Rattle.std.specs.Prelude.{◌≡◌, ◌+◌, ◌/◌, ◌%◌, ◌≤◌, ◌<◌, length};
 ghost use Rattle.model.specs.rules.Api.{slice};
+ghost use Rattle.swar.specs.Words.{ordinary};
 ghost use Rattle.cell_scanner.specs.Run.{leading, comment_run, text_stop, run_stop, run_length, cell_run};
 
 use model::{ByteFault, Cell, CellStep, Char, Dialect};
+
+// Whether a run with these stops passes a byte.
+#[tactic(auto, unfolding(swar::specs::Words::ordinary))]
+fn is_ordinary(b: u8, p: u8, q: u8) -> bool
+    ensures { result ≡ ordinary p q b }
+{
+    matches!(b, 0x20..=0x7E) && b != p && b != q
+}
 
 // The end of a run from `at`, a byte at a time, where fewer than eight bytes are left before `stop`.
 fn single_steps(s: &[u8], at: usize, stop: usize, p: u8, q: u8) -> usize
     requires { (at ≤ stop) × (stop ≤ length s.now) × (stop < at + 8) }
     ensures { result ≡ at + leading p q (slice s.now at stop) }
 {
-    let mut i = at;
-    while i < stop {
-        let b = s[i];
-        if b < 0x20 {
+    for i in at..stop {
+        if !is_ordinary(s[i], p, q) {
             return i;
         }
-        if 0x7E < b {
-            return i;
-        }
-        if b == p {
-            return i;
-        }
-        if b == q {
-            return i;
-        }
-        i += 1;
     }
-    i
+    stop
 }
 
-// The number of whole words of ordinary bytes in a run, and of its bytes after them.
+// The number of whole words of ordinary bytes in a run, and of its bytes after them. The number of words is the number of steps: that a
+// run takes no more is promised too.
 #[derive(Clone, Copy)]
 struct RunSteps {
     words: usize,
@@ -47,19 +45,17 @@ fn word_steps(s: &[u8], at: usize, stop: usize, p: u8, q: u8) -> RunSteps
     requires { (at ≤ stop) × (stop ≤ length s.now) }
     ensures { (result.words ≡ leading p q (slice s.now at stop) / 8) × (result.rest ≡ leading p q (slice s.now at stop) % 8) }
 {
-    let mut words = 0;
-    let mut i = at;
-    while 8 <= stop - i {
-        let flags = swar::unordinary(swar::word(s, i), p, q);
+    for words in 0..(stop - at) / 8 {
+        let flags = swar::unordinary(swar::word(s, at + 8 * words), p, q);
         if flags != 0 {
             return RunSteps {
                 words,
                 rest: swar::before_flag(flags),
             };
         }
-        words += 1;
-        i += 8;
     }
+    let words = (stop - at) / 8;
+    let i = at + 8 * words;
     RunSteps {
         words,
         rest: single_steps(s, i, stop, p, q) - i,
@@ -67,6 +63,7 @@ fn word_steps(s: &[u8], at: usize, stop: usize, p: u8, q: u8) -> RunSteps
 }
 
 // The end of the run of ordinary bytes from `at`, at most `stop`. It ends at a byte outside 20 to 7E hex, at `p` and at `q`.
+#[tactic(auto, using(crate::proofs::Runs::part_short))]
 fn run(s: &[u8], at: usize, stop: usize, p: u8, q: u8) -> usize
     requires { (at ≤ stop) × (stop ≤ length s.now) }
     ensures { result ≡ at + leading p q (slice s.now at stop) }
@@ -96,21 +93,18 @@ pub enum CellEnd {
     Open(Cell),
 }
 
-// The byte beside the quote at which a run ends in this state, if ordinary bytes leave the state unchanged.
 fn text_stop(t: Char, q: u8) -> Option<u8>
     ensures { result ≡ text_stop t q }
 {
-    match t {
-        Char::Whole => Some(q),
-        Char::Within(_) => None,
-    }
+    matches!(t, Char::Whole).then_some(q)
 }
 
+// The byte beside the quote at which a run ends in this state, if ordinary bytes leave the state unchanged.
 pub fn run_stop(d: Dialect, c: Cell) -> Option<u8>
     ensures { result ≡ run_stop d c }
 {
     match c {
-        Cell::Quoted(t) => text_stop(t, 0x5C),
+        Cell::Quoted(t) => text_stop(t, b'\\'),
         Cell::Plain(t) => text_stop(t, cell_lexer::delimiter_of(d)),
         _ => None,
     }

@@ -1,8 +1,7 @@
 -- The kind that the first byte names equals the definition's kind of the cell.
 use mathlib.Core.Path.{◌≡◌, refl}
 use mathlib.Core.List.{[], ◌∷◌}
-use native.Mathlib.Omega.{arith}
-use lib.ListN.{length, get_or}
+use lib.ListN.{get_or}
 use Rattle.model.specs.declared.Dialect.{Dialect}
 use Rattle.model.specs.declared.Dialect.TheVariants.{Csvj, Tdif, CsvPlus}
 use Rattle.model.specs.rules.Base.{choose◌then◌else◌, Bytes}
@@ -16,7 +15,3 @@ kind_first Csvj (b ∷ bs) = refl
 kind_first Tdif [] = refl
 kind_first Tdif (b ∷ bs) = refl
 kind_first (CsvPlus s) raw = refl
-
-pub first_none : (raw : Bytes) → length raw ≡ 0 → 0 ≡ get_or raw 0 0
-first_none [] e = refl
-first_none (b ∷ bs) e = absurd (omega arith)

@@ -15,39 +15,28 @@ use model::{Cell, Char, Dialect, Kind, Numeral};
 pub fn first_of(raw: &[u8]) -> u8
     ensures { result ≡ get_or raw.now 0 0 }
 {
-    if raw.len() == 0 {
-        return 0;
-    }
-    raw[0]
+    raw.first().copied().unwrap_or(0)
 }
 
 fn csvj_kind(b: u8) -> Kind
     ensures { result ≡ kind_by Csvj b }
 {
-    if b == 0x22 {
-        return Kind::Text;
+    match b {
+        b'"' => Kind::Text,
+        b't' => Kind::True,
+        b'f' => Kind::False,
+        b'n' => Kind::Null,
+        _ => Kind::Number,
     }
-    if b == 0x74 {
-        return Kind::True;
-    }
-    if b == 0x66 {
-        return Kind::False;
-    }
-    if b == 0x6E {
-        return Kind::Null;
-    }
-    Kind::Number
 }
 
 fn tdif_kind(b: u8) -> Kind
     ensures { result ≡ kind_by Tdif b }
 {
-    if b == 0x22 {
-        return Kind::Text;
-    }
-    Kind::Null
+    if b == b'"' { Kind::Text } else { Kind::Null }
 }
 
+#[tactic(auto, unfolding(crate::specs::FirstByte::kind_by))]
 fn kind_by(d: Dialect, b: u8) -> Kind
     ensures { result ≡ kind_by d b }
 {
@@ -70,50 +59,34 @@ pub fn kind_of(d: Dialect, raw: &[u8]) -> Kind
 fn may_be_empty(d: Dialect) -> bool
     ensures { result ≡ may_be_empty d }
 {
-    match d {
-        Dialect::Csvj => false,
-        Dialect::Tdif => false,
-        Dialect::CsvPlus(_) => true,
-    }
+    matches!(d, Dialect::CsvPlus(_))
 }
 
 fn is_numeral(n: Numeral) -> bool
     ensures { result ≡ is_numeral n }
 {
     match n {
-        Numeral::Minus => false,
-        Numeral::Zero => true,
-        Numeral::Integer => true,
-        Numeral::Point => false,
-        Numeral::Fraction => true,
-        Numeral::E => false,
-        Numeral::ESign => false,
-        Numeral::Exponent => true,
+        Numeral::Zero | Numeral::Integer | Numeral::Fraction | Numeral::Exponent => true,
+        Numeral::Minus | Numeral::Point | Numeral::E | Numeral::ESign => false,
     }
 }
 
 fn between_characters(t: Char) -> bool
     ensures { result ≡ between_characters t }
 {
-    match t {
-        Char::Whole => true,
-        Char::Within(_) => false,
-    }
+    matches!(t, Char::Whole)
 }
 
 // Whether the bytes read so far are a whole cell.
+#[tactic(auto, unfolding(model::specs::rules::Cell::is_whole))]
 pub fn is_whole(d: Dialect, c: Cell) -> bool
     ensures { result ≡ is_whole d c }
 {
     match c {
         Cell::Fresh => may_be_empty(d),
-        Cell::Quoted(_) => false,
-        Cell::Closed => true,
-        Cell::Escape => false,
-        Cell::Hex(_) => false,
+        Cell::Closed | Cell::Complete => true,
         Cell::InNumber(n) => is_numeral(n),
-        Cell::InWord(_) => false,
         Cell::Plain(t) => between_characters(t),
-        Cell::Complete => true,
+        Cell::Quoted(_) | Cell::Escape | Cell::Hex(_) | Cell::InWord(_) => false,
     }
 }

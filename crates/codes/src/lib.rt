@@ -50,17 +50,15 @@ fn number_of(e: Fault) -> usize
         Fault::Byte(b) => byte_number(b),
         Fault::CutShort => 4,
         Fault::CellCount => 5,
-        Fault::RepeatedName { column: _ } => 6,
-        Fault::HeaderKind { column: _ } => 7,
-        Fault::FileTooLong => 8,
-        Fault::RecordTooLong => 8,
-        Fault::TooManyColumns => 8,
-        Fault::NoCells => 9,
-        Fault::LacksKind { column: _ } => 9,
-        Fault::LoneSurrogate { column: _ } => 9,
-        Fault::Clash { column: _ } => 9,
-        Fault::TextTooLong => 9,
-        Fault::OutputTooLong => 9,
+        Fault::RepeatedName { .. } => 6,
+        Fault::HeaderKind { .. } => 7,
+        Fault::FileTooLong | Fault::RecordTooLong | Fault::TooManyColumns => 8,
+        Fault::NoCells
+        | Fault::LacksKind { .. }
+        | Fault::LoneSurrogate { .. }
+        | Fault::Clash { .. }
+        | Fault::TextTooLong
+        | Fault::OutputTooLong => 9,
     }
 }
 
@@ -68,21 +66,21 @@ fn column_of(e: Fault) -> usize
     ensures { result ≡ column_of e }
 {
     match e {
-        Fault::NoRecord => 0,
-        Fault::Byte(_) => 0,
-        Fault::CutShort => 0,
-        Fault::CellCount => 0,
-        Fault::RepeatedName { column } => column,
-        Fault::HeaderKind { column } => column,
-        Fault::FileTooLong => 0,
-        Fault::RecordTooLong => 0,
-        Fault::TooManyColumns => 0,
-        Fault::NoCells => 0,
-        Fault::LacksKind { column } => column,
-        Fault::LoneSurrogate { column } => column,
-        Fault::Clash { column } => column,
-        Fault::TextTooLong => 0,
-        Fault::OutputTooLong => 0,
+        Fault::RepeatedName { column }
+        | Fault::HeaderKind { column }
+        | Fault::LacksKind { column }
+        | Fault::LoneSurrogate { column }
+        | Fault::Clash { column } => column,
+        Fault::NoRecord
+        | Fault::Byte(_)
+        | Fault::CutShort
+        | Fault::CellCount
+        | Fault::FileTooLong
+        | Fault::RecordTooLong
+        | Fault::TooManyColumns
+        | Fault::NoCells
+        | Fault::TextTooLong
+        | Fault::OutputTooLong => 0,
     }
 }
 

@@ -137,9 +137,6 @@ module _ (s : Bytes) (from upto w : ℕ) (o : from ≤ upto) (inside : upto ≤ 
             λ t. let g = ltb-false k (from + 4) t in part_all passes s (upto - 4) (upto - 4 + 4) (omega arith) parts.1 k (omega arith) (omega arith);
       }
 
-  pub last_none : upto - from ≡ 0 → LastBytes s from upto w
-  last_none h = record { each = λ passes e k l m r. absurd (omega arith) }
-
   pub last_three : {rest : Bytes} → upto - from < 4 → ¬ (upto - from ≡ 0)
       → bytes_of 8 w ≡ get_or s from 0 ∷ get_or s (from + (upto - from) / 2) 0 ∷ get_or s (upto - 1) 0 ∷ rest → LastBytes s from upto w
   unfolding all_pass

@@ -1,5 +1,5 @@
 -- The word tests of bytes in a text. Each works on every byte of a word alone, and its outcome there is computed for all 256 bytes.
-use Prim.Native.Nat.{ℕ, zero, suc, ◌+◌, ◌*◌, ◌^◌, ◌≤◌, ◌<◌}
+use Prim.Native.Nat.{ℕ, zero, suc, ◌+◌, ◌-◌, ◌*◌, ◌^◌, ◌≤◌, ◌<◌}
 use native.Mathlib.Omega.{arith}
 use mathlib.Core.Path.{◌≡◌, refl}
 use mathlib.Core.Bool.{Bool, true, ◌&&◌}
@@ -8,7 +8,7 @@ use borrow.Author.Tests.{eqb-true, eqb-false}
 use Rattle.model.specs.rules.Base.{choose◌then◌else◌, ◌is◌, QUOTE}
 use Rattle.model.proofs.Tests.{and_true, split_on}
 use Rattle.swar.specs.Words.{ONES, bytes_of, flag_of, is_clean, plain_text, Flags}
-use Rattle.swar.proofs.Bytewise.{all_bytes, itself, eight_times, Bytewise, and_bytes, or_bytes, xor_bytes, add_bytes}
+use Rattle.swar.proofs.Bytewise.{all_bytes, itself, eight_times, Bytewise, and_bytes, or_bytes, xor_bytes, add_bytes, sub_bytes}
 use Rattle.swar.proofs.Flags.{flags_from}
 
 -- ---- a rule of every number below n, computed for each
@@ -33,7 +33,7 @@ abbrev clean_of : ℕ → ℕ
 clean_of b = bit_xor (bit_and (bit_or (bit_and (sum_of 0x02 0x5F b) (sum_of 0x5C 0x7F b)) b) 0x80) 0x80
 
 abbrev plain_of : ℕ → ℕ
-plain_of b = bit_xor (bit_and (bit_or (bit_and (bit_and (sum_of 0x02 0x5F b) (sum_of 0x5C 0x7F b)) (bit_xor b 0xFF)) (bit_and (sum_of 0x6D 0x7F b) b)) 0x80) 0x80
+plain_of b = bit_xor (bit_and (bit_or (bit_and (bit_and (sum_of 0x02 0x5F b) (sum_of 0x5C 0x7F b)) (0xFF - b)) (bit_and (sum_of 0x6D 0x7F b) b)) 0x80) 0x80
 
 clean_byte : (b : ℕ) → b < 0x100 → clean_of b ≡ flag_of (is_clean QUOTE) b
 unfolding flag_of is_clean choose◌then◌else◌
@@ -88,10 +88,10 @@ module _ (w : ℕ) (h : w < 0x100 ^ 8) where
       (bit_xor
       (bit_and
       (bit_or (bit_and (bit_and (sum_word 0x0202020202020202 0x5F5F5F5F5F5F5F5F w) (sum_word 0x5C5C5C5C5C5C5C5C 0x7F7F7F7F7F7F7F7F w))
-      (bit_xor w 0xFFFFFFFFFFFFFFFF)) (bit_and (sum_word 0x6D6D6D6D6D6D6D6D 0x7F7F7F7F7F7F7F7F w) w))
+      (0xFFFFFFFFFFFFFFFF - w)) (bit_and (sum_word 0x6D6D6D6D6D6D6D6D 0x7F7F7F7F7F7F7F7F w) w))
       0x8080808080808080)
       0x8080808080808080)
   plain_flags =
       let hs = all_bytes 8 w in
-      let others = xor_bytes hs (itself w h) (eight_times w 0xFF (omega arith)) in
+      let others = sub_bytes hs (eight_times w 0xFF (omega arith)) (itself w h) (λ b l. omega arith) in
       flags_from (turned (or_bytes hs (and_bytes hs (and_bytes hs no_mark no_backslash) others) (and_bytes hs no_ed (itself w h)))) plain_byte_lem

@@ -69,7 +69,7 @@ joined_word b0 b1 b2 b3 b4 b5 b6 b7 h0 h1 h2 h3 h4 h5 h6 =
 
 -- ---- four bytes
 
-pub four_bytes : (s : Bytes) (i : ℕ) → i + 4 ≤ length s → slice s i (i + 4) ≡ get_or s i 0 ∷ get_or s (i + 1) 0 ∷ get_or s (i + 2) 0 ∷ get_or s (i + 3) 0 ∷ []
+four_bytes : (s : Bytes) (i : ℕ) → i + 4 ≤ length s → slice s i (i + 4) ≡ get_or s i 0 ∷ get_or s (i + 1) 0 ∷ get_or s (i + 2) 0 ∷ get_or s (i + 3) 0 ∷ []
 four_bytes s i h =
     let n : i + 4 - i ≡ 4 = omega arith in
     let e0 = next_byte s i (i + 1) (omega arith) (omega arith) in
@@ -78,16 +78,17 @@ four_bytes s i h =
     let e3 = next_byte s (i + 3) (i + 4) (omega arith) (omega arith) in
     rw (n, e0, e1, e2, e3)
 
-pub joined_four : (b0 b1 b2 b3 : ℕ) → b0 < 0x100 → b1 < 0x100 → b2 < 0x100 → b3 < 0x100
-    → let w = bit_or (bit_or (bit_or b0 (b1 * 0x100)) (b2 * 0x10000)) (b3 * 0x1000000) in
-    (bytes_of 4 w ≡ b0 ∷ b1 ∷ b2 ∷ b3 ∷ []) × (w < 0x100000000)
+pub four_read : (s : Bytes) (i w : ℕ) → i + 4 ≤ length s → ((j : ℕ) → get_or s j 0 < 0x100)
+    → w ≡ word_of (get_or s i 0 ∷ get_or s (i + 1) 0 ∷ get_or s (i + 2) 0 ∷ get_or s (i + 3) 0 ∷ 0 ∷ 0 ∷ 0 ∷ 0 ∷ [])
+    → (bytes_of 4 w ≡ slice s i (i + 4)) × (w < 0x100000000)
 unfolding word_of
-joined_four b0 b1 b2 b3 h0 h1 h2 h3 =
-    let e1 = or_shifted_r b1 8 b0 h0 in
-    let e2 = or_shifted_r b2 16 (bit_or b0 (b1 * 0x100)) (omega arith) in
-    let e3 = or_shifted_r b3 24 (bit_or (bit_or b0 (b1 * 0x100)) (b2 * 0x10000)) (omega arith) in
-    let whole : bit_or (bit_or (bit_or b0 (b1 * 0x100)) (b2 * 0x10000)) (b3 * 0x1000000) ≡ word_of (b0 ∷ b1 ∷ b2 ∷ b3 ∷ []) = omega arith in
-    (ap (bytes_of 4) whole ∙ bytes_back (and_byte h0 (and_byte h1 (and_byte h2 (and_byte h3 no_bytes)))), omega arith)
+four_read s i w h byte e =
+    let h0 = byte i in
+    let h1 = byte (i + 1) in
+    let h2 = byte (i + 2) in
+    let h3 = byte (i + 3) in
+    let low : w ≡ word_of (get_or s i 0 ∷ get_or s (i + 1) 0 ∷ get_or s (i + 2) 0 ∷ get_or s (i + 3) 0 ∷ []) = omega arith in
+    (ap (bytes_of 4) low ∙ bytes_back (and_byte h0 (and_byte h1 (and_byte h2 (and_byte h3 no_bytes)))) ∙ sym (four_bytes s i h), omega arith)
 
 -- two groups of four
 both_bytes : {xs ys : Bytes} → AllBytes xs → AllBytes ys → AllBytes (xs ++ ys)

@@ -12,8 +12,9 @@ ghost use Rattle.model.specs.rules.Cell.{is_digit};
 ghost use Rattle.model.specs.rules.Api.{slice};
 ghost use Rattle.swar.specs.Words.{word_of, Word, ONES, bytes_of, ascii_stop, ordinary, clean_ascii, is_clean, plain_text, is_byte, is_below, Flags, zero_bytes, LastBytes};
 
-// Eight bytes as one number, the first lowest. They are joined by |, which the compiler turns into one load at once; a sum it recognizes
-// only after it has refused to inline the caller's loop, and tables of short cells took a tenth more time.
+// Eight bytes as one number, the first lowest. They are joined by |, which the compiler turns into one load at once. A sum, as
+// `u64::from_le_bytes` is, it recognizes only after it has refused to inline the caller's loop, and tables of short cells took a tenth
+// more time.
 fn joined(b0: u8, b1: u8, b2: u8, b3: u8, b4: u8, b5: u8, b6: u8, b7: u8) -> u64
     ensures { result ≡ word_of (b0 ∷ b1 ∷ b2 ∷ b3 ∷ b4 ∷ b5 ∷ b6 ∷ b7 ∷ []) }
 {
@@ -46,18 +47,15 @@ pub fn word(s: &[u8], i: usize) -> u64
 
 // ---- the last bytes of a span
 
-// Four bytes as one number.
-fn joined_four(b0: u8, b1: u8, b2: u8, b3: u8) -> u64
-    ensures { (bytes_of 4 result ≡ b0 ∷ b1 ∷ b2 ∷ b3 ∷ []) × (result < 0x100000000) }
-{
-    (b0 as u64) | (b1 as u64) * 0x100 | (b2 as u64) * 0x10000 | (b3 as u64) * 0x1000000
-}
+// The word of a span without bytes.
+const SPACES: u64 = 0x2020202020202020;
 
+// Four bytes as one number. The four zeros are joined at no cost.
 fn four(s: &[u8], i: usize) -> u64
     requires { i + 4 ≤ length s.now }
     ensures { (bytes_of 4 result ≡ slice s.now i (i + 4)) × (result < 0x100000000) }
 {
-    joined_four(s[i], s[i + 1], s[i + 2], s[i + 3])
+    joined(s[i], s[i + 1], s[i + 2], s[i + 3], 0, 0, 0, 0)
 }
 
 // Two groups of four bytes.
@@ -90,23 +88,26 @@ pub fn last_word(s: &[u8], from: usize, upto: usize) -> u64
         return fours(s, from, upto - 4);
     }
     if n == 0 {
-        return 0x2020202020202020;
+        return SPACES;
     }
     three(s, from, from + n / 2, upto - 1)
 }
 
 // ---- tests of bytes
 
+// Of each of the eight bytes: the top bit, the other bits, and 1.
+const TOP_BITS: u64 = 0x8080808080808080;
+
+const LOW_BITS: u64 = 0x7F7F7F7F7F7F7F7F;
+
+const ONE_EACH: u64 = 0x0101010101010101;
+
 // A stop, repeated eight times. Bytes from 80 hex on are not ordinary or clean anyway, so a stop among them is replaced by 0, which is
 // neither.
 fn eight_stops(p: u8) -> u64
     ensures { result ≡ ascii_stop p * ONES }
 {
-    if p < 0x80 {
-        (p as u64) * 0x0101010101010101
-    } else {
-        0
-    }
+    if p < 0x80 { (p as u64) * ONE_EACH } else { 0 }
 }
 
 // The top bit of each byte that is not ordinary ASCII. Without its top bit a byte is at most 7F hex, and so is its difference from a stop
@@ -114,24 +115,24 @@ fn eight_stops(p: u8) -> u64
 pub fn unordinary(w: u64, p: u8, q: u8) -> u64
     ensures { Flags (ordinary p q) w result }
 {
-    let low = w & 0x7F7F7F7F7F7F7F7F;
-    let is_first = 0x8080808080808080 - (low ^ eight_stops(p));
-    let is_second = 0x8080808080808080 - (low ^ eight_stops(q));
+    let low = w & LOW_BITS;
+    let is_first = TOP_BITS - (low ^ eight_stops(p));
+    let is_second = TOP_BITS - (low ^ eight_stops(q));
     let below_20 = 0x9F9F9F9F9F9F9F9F - low;
-    let is_7f = low + 0x0101010101010101;
-    (w | is_first | is_second | below_20 | is_7f) & 0x8080808080808080
+    let is_7f = low + ONE_EACH;
+    (w | is_first | is_second | below_20 | is_7f) & TOP_BITS
 }
 
 // The top bit of each byte that is not clean ASCII, computed as in `unordinary`; 7F hex is clean.
 pub fn unclean(w: u64, p: u8, q: u8) -> u64
     ensures { Flags (clean_ascii p q) w result }
 {
-    let ascii = w & 0x7F7F7F7F7F7F7F7F;
-    let is_first = 0x8080808080808080 - (ascii ^ eight_stops(p));
-    let is_second = 0x8080808080808080 - (ascii ^ eight_stops(q));
-    let is_backslash = 0x8080808080808080 - (ascii ^ 0x5C5C5C5C5C5C5C5C);
+    let ascii = w & LOW_BITS;
+    let is_first = TOP_BITS - (ascii ^ eight_stops(p));
+    let is_second = TOP_BITS - (ascii ^ eight_stops(q));
+    let is_backslash = TOP_BITS - (ascii ^ 0x5C5C5C5C5C5C5C5C);
     let below_20 = 0x9F9F9F9F9F9F9F9F - ascii;
-    (w | is_first | is_second | is_backslash | below_20) & 0x8080808080808080
+    (w | is_first | is_second | is_backslash | below_20) & TOP_BITS
 }
 
 // The top bit of each byte that is no digit, computed as in `unordinary`: the byte plus 46 hex has it from 3A hex on, AF minus the byte
@@ -139,10 +140,10 @@ pub fn unclean(w: u64, p: u8, q: u8) -> u64
 pub fn no_digit(w: u64) -> u64
     ensures { Flags is_digit w result }
 {
-    let ascii = w & 0x7F7F7F7F7F7F7F7F;
+    let ascii = w & LOW_BITS;
     let above = ascii + 0x4646464646464646;
     let below = 0xAFAFAFAFAFAFAFAF - ascii;
-    (w | above | below) & 0x8080808080808080
+    (w | above | below) & TOP_BITS
 }
 
 // The top bit of each byte that is not clean in a text. Flipping 02 hex keeps ASCII below 20 there and moves only the quotation mark to
@@ -150,51 +151,50 @@ pub fn no_digit(w: u64) -> u64
 pub fn unclean_text(w: u64) -> u64
     ensures { Flags (is_clean QUOTE) w result }
 {
-    let low = w & 0x7F7F7F7F7F7F7F7F;
+    let low = w & LOW_BITS;
     let no_mark = (low ^ 0x0202020202020202) + 0x5F5F5F5F5F5F5F5F;
-    let no_backslash = (low ^ 0x5C5C5C5C5C5C5C5C) + 0x7F7F7F7F7F7F7F7F;
-    (((no_mark & no_backslash) | w) & 0x8080808080808080) ^ 0x8080808080808080
+    let no_backslash = (low ^ 0x5C5C5C5C5C5C5C5C) + LOW_BITS;
+    (((no_mark & no_backslash) | w) & TOP_BITS) ^ TOP_BITS
 }
 
 // The top bit of each byte that is not plain in a text: ASCII as in `unclean_text`, and of the other bytes ED hex alone.
 pub fn unplain_text(w: u64) -> u64
     ensures { Flags plain_text w result }
 {
-    let low = w & 0x7F7F7F7F7F7F7F7F;
+    let low = w & LOW_BITS;
     let no_mark = (low ^ 0x0202020202020202) + 0x5F5F5F5F5F5F5F5F;
-    let no_backslash = (low ^ 0x5C5C5C5C5C5C5C5C) + 0x7F7F7F7F7F7F7F7F;
-    let no_ed = (low ^ 0x6D6D6D6D6D6D6D6D) + 0x7F7F7F7F7F7F7F7F;
-    let ascii = no_mark & no_backslash & (w ^ 0xFFFFFFFFFFFFFFFF);
-    ((ascii | (no_ed & w)) & 0x8080808080808080) ^ 0x8080808080808080
+    let no_backslash = (low ^ 0x5C5C5C5C5C5C5C5C) + LOW_BITS;
+    let no_ed = (low ^ 0x6D6D6D6D6D6D6D6D) + LOW_BITS;
+    let ascii = no_mark & no_backslash & !w;
+    ((ascii | (no_ed & w)) & TOP_BITS) ^ TOP_BITS
 }
 
 // The top bit of each byte that is not `c`: if a byte of the difference is not 0, its low bits carry into that bit, or it is set already.
 pub fn other_than(w: u64, c: u8) -> u64
     ensures { Flags (is_byte c) w result }
 {
-    let difference = w ^ ((c as u64) * 0x0101010101010101);
-    (((difference & 0x7F7F7F7F7F7F7F7F) + 0x7F7F7F7F7F7F7F7F) | difference) & 0x8080808080808080
+    let difference = w ^ ((c as u64) * ONE_EACH);
+    (((difference & LOW_BITS) + LOW_BITS) | difference) & TOP_BITS
 }
 
 // The top bit of each byte from 20 hex on.
 pub fn from_20(w: u64) -> u64
     ensures { Flags (is_below 0x20) w result }
 {
-    (((w & 0x7F7F7F7F7F7F7F7F) + 0x6060606060606060) | w) & 0x8080808080808080
+    (((w & LOW_BITS) + 0x6060606060606060) | w) & TOP_BITS
 }
 
 // The number of bytes before the first flag.
 pub fn before_flag(flags: u64) -> usize
     ensures { result ≡ zero_bytes (bytes_of 8 flags) }
 {
-    (u64::trailing_zeros(flags) as usize) / 8
+    flags.trailing_zeros() as usize / 8
 }
 
 // A guess at the number of bytes before the first `c`; 8: none found. It takes fewer instructions than an exact test, since it takes a
 // byte that differs in its top bit alone for `c`. Nothing is promised of it, so its callers test what it returns.
 pub fn guess(w: u64, c: u8) -> usize {
-    let near = (0x8080808080808080 - ((w & 0x7F7F7F7F7F7F7F7F) ^ eight_stops(c)))
-        & 0x8080808080808080;
+    let near = (TOP_BITS - ((w & LOW_BITS) ^ eight_stops(c))) & TOP_BITS;
     if near == 0 {
         return 8;
     }

@@ -1,6 +1,6 @@
 use Prim.Native.Nat.{ℕ, ◌+◌, ◌≤◌}
 use native.Mathlib.Omega.{arith}
-use mathlib.Core.Path.{◌≡◌, refl, sym, ap, ◌∙◌}
+use mathlib.Core.Path.{◌≡◌, sym, ap, ◌∙◌}
 use lib.ListN.{get_or}
 use Rattle.model.specs.declared.Cell.{Cell}
 use Rattle.model.specs.declared.CellStep.TheVariants.{More}
@@ -9,9 +9,6 @@ use Rattle.model.specs.rules.Api.{slice}
 use Rattle.cell_scanner.specs.Run.{run_stop, run_length, cell_run}
 use Rattle.cell_scanner.proofs.Runs.{run_rest, run_short, rest_more, rest_stops, rest_refused, rest_open}
 use Rattle.cell_scanner.proofs.cell_end.Goals as goal
-
-pub loop-i-init : goal.loop-i-init
-loop-i-init c = (c.requires.0, c.requires.1, refl)
 
 pub returns-in-Stop : goal.returns-in-Stop
 returns-in-Stop c =
@@ -24,17 +21,6 @@ returns-in-Refuse c =
     let a = c.args in
     sym (c.loop-i.invariant.2 ∙ rest_refused a.d c.loop-i.c a.s.now c.loop-i.i a.stop c.loop-i-test.true c.loop-i.invariant.1
     c.in-Refuse.e (sym c.cell_step.ensures ∙ c.in-Refuse.is))
-
-pub cell_run-i-requires : goal.cell_run-i-requires
-cell_run-i-requires c = (omega arith, c.loop-i.invariant.1)
-
-pub loop-i-smaller : goal.loop-i-smaller
-loop-i-smaller c =
-    let a = c.args in
-    let j : ℕ = c.loop-i.i + 1 in
-    let t : Cell = c.in-More.next in
-    let at : c.cell_run-i.result ≡ j + run_length a.d (run_stop a.d t) (slice a.s.now j a.stop) = c.cell_run-i.ensures in
-    omega arith
 
 pub loop-i-preserved : goal.loop-i-preserved
 loop-i-preserved c =

@@ -1,6 +1,6 @@
 -- `swar::last_word` meets its contract: for each length of the span the bytes that are read cover it.
 use native.Mathlib.Omega.{arith}
-use Rattle.swar.proofs.Spans.{last_eight, last_fours, last_none, last_three}
+use Rattle.swar.proofs.Spans.{last_eight, last_fours, last_three}
 use Rattle.swar.proofs.last_word.Goals as goal
 
 pub returns-then-n-ge8 : goal.returns-then-n-ge8
@@ -8,21 +8,10 @@ returns-then-n-ge8 c =
     let a = c.args in
     last_eight a.s.now a.from a.upto c.word.result c.requires.0 c.requires.1 (omega arith) c.word.ensures
 
-pub fours-requires : goal.fours-requires
-fours-requires c = (omega arith, omega arith)
-
 pub returns-then-n-ge4 : goal.returns-then-n-ge4
 returns-then-n-ge4 c =
     let a = c.args in
     last_fours a.s.now a.from a.upto c.fours.result c.requires.0 c.requires.1 (omega arith) (omega arith) c.fours.ensures
-
-pub returns-then-n-eq0 : goal.returns-then-n-eq0
-returns-then-n-eq0 c =
-    let a = c.args in
-    last_none a.s.now a.from a.upto 0x2020202020202020 c.requires.0 c.requires.1 (omega arith)
-
-pub three-requires : goal.three-requires
-three-requires c = (omega arith, omega arith, omega arith)
 
 pub returns : goal.returns
 returns c =

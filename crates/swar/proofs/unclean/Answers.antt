@@ -16,9 +16,6 @@ overflow_sub-is_backslash c =
     let l = and_le_r c.args.w 0x7F7F7F7F7F7F7F7F in
     omega (arith, xor_lt 63 (bit_and c.args.w 0x7F7F7F7F7F7F7F7F) 0x5C5C5C5C5C5C5C5C (omega arith) (omega arith))
 
-pub overflow_sub-below_20 : goal.overflow_sub-below_20
-overflow_sub-below_20 c = omega (arith, and_le_r c.args.w 0x7F7F7F7F7F7F7F7F)
-
 pub returns : goal.returns
 returns c =
     let a = c.args in

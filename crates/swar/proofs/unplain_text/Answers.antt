@@ -3,9 +3,6 @@ use native.Mathlib.Omega.{arith}
 use Rattle.swar.proofs.TextBytes.{sum_fits, plain_flags}
 use Rattle.swar.proofs.unplain_text.Goals as goal
 
-pub overflow_add-no_mark : goal.overflow_add-no_mark
-overflow_add-no_mark c = omega (arith, sum_fits c.args.w 0x0202020202020202 0x5F5F5F5F5F5F5F5F (omega arith) (omega arith))
-
 pub overflow_add-no_backslash : goal.overflow_add-no_backslash
 overflow_add-no_backslash c = omega (arith, sum_fits c.args.w 0x5C5C5C5C5C5C5C5C 0x7F7F7F7F7F7F7F7F (omega arith) (omega arith))
 

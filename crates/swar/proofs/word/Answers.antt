@@ -7,5 +7,5 @@ use Rattle.swar.proofs.word.Goals as goal
 
 pub returns : goal.returns
 returns c =
-    let byte : (j : ℕ) → get_or c.args.s.now j 0 < 0x100 = λ j. omega (arith, c.shared_slice_known-1.given j) in
+    let byte : (j : ℕ) → get_or c.args.s.now j 0 < 0x100 = λ j. omega (arith, c.type_inv.s j) in
     word_read c.args.s.now c.args.i _ c.requires byte c.joined.ensures

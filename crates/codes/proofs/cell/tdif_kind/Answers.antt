@@ -8,6 +8,6 @@ pub returns-then-b-eq34 : goal.returns-then-b-eq34
 unfolding kind_by choose◌then◌else◌
 returns-then-b-eq34 c = search tests
 
-pub returns : goal.returns
+pub returns-else-b-eq34 : goal.returns-else-b-eq34
 unfolding kind_by choose◌then◌else◌
-returns c = search tests
+returns-else-b-eq34 c = search tests

@@ -1,9 +1,0 @@
--- `case_fold::byte_or_none` meets its contract.
--- Assumes nothing.
-use mathlib.Core.Path.{sym}
-use native.Mathlib.Omega.{arith}
-use lib.ListN.{get_or-eq_default}
-use Rattle.case_fold.proofs.byte_or_none.Goals as goal
-
-pub returns : goal.returns
-returns c = sym (get_or-eq_default c.args.s.now 0 (omega arith))

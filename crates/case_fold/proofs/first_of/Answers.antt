@@ -1,7 +1,0 @@
--- `case_fold::first_of` meets its contract.
--- Assumes nothing.
-use Rattle.model.proofs.name_laws.Folding.{pack_pair}
-use Rattle.case_fold.proofs.first_of.Goals as goal
-
-pub returns : goal.returns
-returns c = rw (pack_pair c.args.u c.requires.0 c.requires.1)
