@@ -2,23 +2,22 @@
 use Rattle.std.specs.Prelude.{ℕ, length}
 use Rattle.model.specs.declared.Report.{Report}
 use Rattle.model.specs.declared.Dialect.{Dialect}
-use Rattle.std.specs.Prelude.{Ok}
+use Rattle.std.specs.Prelude.{Result, Ok, Err}
 use Rattle.model.specs.rules.Base.{Bytes}
 use Rattle.model.specs.rules.Report.{accepted}
 use Rattle.model.specs.rules.Decode.{kind_number, validate_cell}
 use Rattle.model.specs.rules.Api as api
 use Rattle.cell_decoder.specs.declared.Decoded.{Decoded}
-use Rattle.cell_decoder.specs.declared.Decoded.TheVariants.{Content, Refused}
 
 pub record CellAnswer : Type 0 where
   pub report : Report
   pub kind : ℕ
   pub size : ℕ
 
--- what each case of the decoder's enum means: the content's length and kind, or a refusal, whose length and kind are 0 (§9.2 §11.1 §19.7)
-abbrev pub given_answer : Decoded → CellAnswer
-given_answer (Content n k) = record { report = accepted; kind = kind_number k; size = n }
-given_answer (Refused e) = record { report = e; kind = 0; size = 0 }
+-- what the decoder returns means: the content's length and kind, or a refusal, whose length and kind are 0 (§9.2 §11.1 §19.7)
+abbrev pub given_answer : Result Decoded Report → CellAnswer
+given_answer (Ok a) = record { report = accepted; kind = kind_number a.kind; size = a.size }
+given_answer (Err e) = record { report = e; kind = 0; size = 0 }
 
 -- the definition's answer with the length of its content; the content itself is in the room
 abbrev pub decoder_answer : api.Decoded → CellAnswer

@@ -74,7 +74,7 @@ fn string_length(raw: &[u8]) -> usize
         }
         if b == 0x5C {
             let p = escape::unescape_at(raw, i);
-            n += p.size;
+            n += p.text.as_slice().len();
             i = p.next;
         } else {
             n += 1;
@@ -98,9 +98,7 @@ fn write_escape(raw: &[u8], i: usize, out: &mut [u8], o: usize) -> Cursor
     ensures { Stepped raw.now i out.old o out.new result.read result.write }
 {
     let p = escape::unescape_at(raw, i);
-    let bytes = p.bytes;
-    let size = p.size;
-    let write = buffer::copy(out, o, &bytes[..size]);
+    let write = buffer::copy(out, o, p.text.as_slice());
     Cursor {
         read: p.next,
         write,

@@ -24,12 +24,11 @@ pub mod first_byte;
 pub mod source;
 pub mod validate;
 
-// What the decoder returns.
+// The content is in the room and has this length.
 #[derive(Clone, Copy)]
-pub enum Decoded {
-    // The content is in the room and has this length.
-    Content { size: usize, kind: Kind },
-    Refused(Report),
+pub struct Decoded {
+    pub size: usize,
+    pub kind: Kind,
 }
 
 // ---- cells that are known to be sound
@@ -50,44 +49,41 @@ fn write_content(d: Dialect, raw: &[u8], room: &mut [u8])
 }
 
 // A cell that is not validated again: 10 if its content is longer than the room (§11.6).
-pub fn decode_sound(d: Dialect, raw: &[u8], room: &mut [u8]) -> Decoded
+pub fn decode_sound(d: Dialect, raw: &[u8], room: &mut [u8]) -> Result<Decoded, Report>
     ensures result_value { given_answer result ≡ decoder_answer (sound_cell d raw.now (length room.old)) }
     ensures room_after { room.new ≡ over (sound_cell d raw.now (length room.old)).content room.old }
 {
     let size = content_length(d, raw);
     if room.len() < size {
-        return Decoded::Refused(codes::call_report(codes::NO_ROOM));
+        return Err(codes::call_report(codes::NO_ROOM));
     }
     write_content(d, raw, room);
-    Decoded::Content {
+    Ok(Decoded {
         size,
         kind: cell::kind_of(d, raw),
-    }
+    })
 }
 
 // ---- any raw bytes
 
 // A cell of this dialect: 2, 3 or 4 if the bytes are no single cell (§11.2 §11.3 §11.4).
-pub fn decode_cell(d: Dialect, raw: &[u8], room: &mut [u8]) -> Decoded
+pub fn decode_cell(d: Dialect, raw: &[u8], room: &mut [u8]) -> Result<Decoded, Report>
     ensures result_value { given_answer result ≡ decoder_answer (any_cell d raw.now (length room.old)) }
     ensures room_after { room.new ≡ over (any_cell d raw.now (length room.old)).content room.old }
 {
-    match validate::validate_cell(d, raw) {
-        Ok(()) => decode_sound(d, raw, room),
-        Err(CellFault { fault, offset }) => {
-            Decoded::Refused(codes::record_report(fault, 0, offset))
-        }
-    }
+    validate::validate_cell(d, raw)
+        .map_err(|CellFault { fault, offset }| codes::record_report(fault, 0, offset))?;
+    decode_sound(d, raw, room)
 }
 
 // The decoder (§11.1): 11 for a number that is no dialect's. It ends on every input, and its answer and its room are determined for all
 // of them (§19.1 §19.5 §19.6).
-pub fn decode(dialect: u32, raw: &[u8], room: &mut [u8]) -> Decoded
+pub fn decode(dialect: u32, raw: &[u8], room: &mut [u8]) -> Result<Decoded, Report>
     ensures answer { given_answer result ≡ decoder_answer (decoder dialect raw.now (length room.old)) }
     ensures leaves { room.new ≡ decoder_leaves dialect raw.now room.old }
 {
-    match Dialect::try_from(dialect) {
-        Ok(d) => decode_cell(d, raw, room),
-        Err(_) => Decoded::Refused(codes::call_report(codes::WRONG_CALL)),
-    }
+    let Ok(d) = Dialect::try_from(dialect) else {
+        return Err(codes::call_report(codes::WRONG_CALL));
+    };
+    decode_cell(d, raw, room)
 }

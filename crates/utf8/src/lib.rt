@@ -12,8 +12,9 @@ ghost use Rattle.model.specs.rules.Utf8.{leads, lead_byte, inner_step, char_step
 ghost use Rattle.model.specs.declared.Lead.TheVariants.{C2ToDf};
 ghost use Rattle.model.specs.declared.Inner.TheVariants.{Second};
 ghost use Rattle.std.specs.Prelude.{Some, None};
-ghost use Rattle.utf8.specs.Codes.{Packs, Joins};
+ghost use Rattle.utf8.specs.Codes.{packed, Joins};
 
+use buffer::short::Short;
 use model::{Char, Inner, Lead};
 
 pub mod multibyte;
@@ -143,13 +144,6 @@ pub fn char_step(c: Char, b: u8) -> Option<Char>
 
 // ---- code points
 
-// The bytes of a code point: the first `size` of `bytes`, with zeros after them.
-#[derive(Clone, Copy)]
-pub struct Packed {
-    pub bytes: [u8; 4],
-    pub size: usize,
-}
-
 // The low six bits as a continuation byte.
 fn six_bits(u: u32) -> u8
     ensures { result ≡ 0x80 + u % 0x40 }
@@ -158,40 +152,25 @@ fn six_bits(u: u32) -> u8
 }
 
 // The bytes of a code point, also of a surrogate. A number that is no code point has none.
-pub fn pack(u: u32) -> Packed
-    ensures { Packs u result.bytes result.size }
+pub fn pack(u: u32) -> Short<4>
+    ensures { result ≡ packed u }
 {
     if u <= 0x7F {
-        return Packed {
-            bytes: [u as u8, 0, 0, 0],
-            size: 1,
-        };
+        return Short::new([u as u8, 0, 0, 0], 1);
     }
     if u <= 0x7FF {
         let lead = ((u >> 6) | 0xC0) as u8;
-        return Packed {
-            bytes: [lead, six_bits(u), 0, 0],
-            size: 2,
-        };
+        return Short::new([lead, six_bits(u), 0, 0], 2);
     }
     if u <= 0xFFFF {
         let lead = ((u >> 12) | 0xE0) as u8;
-        return Packed {
-            bytes: [lead, six_bits(u >> 6), six_bits(u), 0],
-            size: 3,
-        };
+        return Short::new([lead, six_bits(u >> 6), six_bits(u), 0], 3);
     }
     if u <= 0x10FFFF {
         let lead = ((u >> 18) | 0xF0) as u8;
-        return Packed {
-            bytes: [lead, six_bits(u >> 12), six_bits(u >> 6), six_bits(u)],
-            size: 4,
-        };
+        return Short::new([lead, six_bits(u >> 12), six_bits(u >> 6), six_bits(u)], 4);
     }
-    Packed {
-        bytes: [0, 0, 0, 0],
-        size: 0,
-    }
+    Short::new([0, 0, 0, 0], 0)
 }
 
 // The code point of a surrogate pair: ten bits of each (§2.8).

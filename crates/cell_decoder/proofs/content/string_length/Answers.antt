@@ -1,4 +1,4 @@
-use mathlib.Core.Path.{ap}
+use mathlib.Core.Path.{◌≡◌, ap}
 use native.Mathlib.Omega.{arith}
 use lib.ListN.{length}
 use Rattle.cell_decoder.proofs.Strings.{proceeds_length, string_end, string_quote, string_byte}
@@ -22,7 +22,9 @@ pub loop-i-smaller-then-b-eq92 : goal.loop-i-smaller-then-b-eq92
 loop-i-smaller-then-b-eq92 c = omega (arith, c.unescape_at-p.ensures.on)
 
 pub loop-i-preserved-then-b-eq92 : goal.loop-i-preserved-then-b-eq92
-loop-i-preserved-then-b-eq92 c = (omega (arith, c.unescape_at-p.ensures.on), omega (arith, proceeds_length c.unescape_at-p.ensures))
+loop-i-preserved-then-b-eq92 c =
+    let text : length c.as_slice.result.now ≡ length c.unescape_at-p.result.text = ap length c.as_slice.ensures.text in
+    (omega (arith, c.unescape_at-p.ensures.on), omega (arith, proceeds_length c.unescape_at-p.ensures))
 
 pub loop-i-preserved : goal.loop-i-preserved
 loop-i-preserved c =
