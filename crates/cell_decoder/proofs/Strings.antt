@@ -11,11 +11,11 @@ use Rattle.model.specs.rules.Utf8.{pack, joined, is_high, is_low}
 use Rattle.model.specs.rules.Decode.{Unit16, byte, unit, short_of, hex_of, InString, between, escape, digits, units, text_of}
 use Rattle.model.specs.declared.HexLeft.TheVariants.{Four}
 use Rattle.model.proofs.Tests.{split, is→eq, within_true}
+use Rattle.buffer.specs.Writes.{written}
 use Rattle.buffer.proofs.WriteProgress.{drop_next, Writing, put}
 use Rattle.utf8.specs.Codes.{packed, Joins}
 use Rattle.utf8.proofs.Codes.{packed_is, packed_most}
 use Rattle.cell_decoder.specs.Strings.{string_from, unit_at, Lone, UnitThere, LowThere, Proceeds}
-use Rattle.cell_decoder.specs.WrittenContent.{Stepped}
 use Rattle.cell_decoder.specs.Units.{one}
 use Rattle.cell_decoder.proofs.Units.{packed_unit, packed_no_ed, short_ed}
 
@@ -265,5 +265,6 @@ module _ (raw : Bytes) (i : ℕ) where
 
 -- a part of a string is written
 pub stepped : {old : Bytes} {at : ℕ} {whole out : Bytes} {o : ℕ} (raw : Bytes) (i : ℕ) → Writing old at whole out o (string_from raw i)
-    → {new : Bytes} {read write : ℕ} → Stepped raw i out o new read write → Writing old at whole new write (string_from raw read)
-stepped raw i p t = rw (t.text, t.place) (put t.w (rw t.stands at p))
+    → {text : Bytes} {next : ℕ} → Proceeds raw i text next → {w : Bytes} → w ≡ text → {new : Bytes} {r : ℕ}
+    → (r ≡ o + length w) × (new ≡ written out o w) → Writing old at whole new r (string_from raw next)
+stepped raw i p {text} g e q = rw (q.1, q.0, e) (put text (rw g.stands at p))

@@ -1,9 +1,10 @@
+use mathlib.Core.Path.{◌≡◌, ap}
 use mathlib.Core.List.{◌∷◌}
 use Prim.Native.Nat.{◌+◌}
 use native.Mathlib.Omega.{arith}
-use lib.ListN.{get_or}
+use lib.ListN.{length, get_or}
 use Rattle.cell_decoder.specs.Strings.{string_from}
-use Rattle.cell_decoder.proofs.Strings.{string_end, string_quote, string_byte, stepped}
+use Rattle.cell_decoder.proofs.Strings.{string_end, string_quote, string_byte, proceeds_length, stepped}
 use Rattle.buffer.proofs.WriteProgress.{Writing, start, here, store, room_left, filled}
 use Rattle.cell_decoder.proofs.content.write_string.Goals as goal
 
@@ -18,14 +19,19 @@ returns-then-b-eq34 c =
     let a = c.args in
     filled (rw (string_quote a.raw.now c.loop-i.i c.loop-i-test.true c.if-b-eq34.true) at c.loop-i.invariant)
 
-pub write_escape-p-requires : goal.write_escape-p-requires
-write_escape-p-requires c = record { at_backslash = (omega arith, c.if-b-eq92.true); room = omega (arith, room_left c.loop-i.invariant) }
+pub unescape_at-p-requires : goal.unescape_at-p-requires
+unescape_at-p-requires c = (omega arith, c.if-b-eq92.true)
+
+pub copy-o-requires : goal.copy-o-requires
+copy-o-requires c =
+    let text : length c.as_slice.result.now ≡ length c.unescape_at-p.result.text = ap length c.as_slice.ensures.text in
+    omega (arith, room_left c.loop-i.invariant, proceeds_length c.unescape_at-p.ensures)
 
 pub loop-i-smaller-then-b-eq92 : goal.loop-i-smaller-then-b-eq92
-loop-i-smaller-then-b-eq92 c = omega (arith, c.write_escape-p.ensures.on)
+loop-i-smaller-then-b-eq92 c = omega (arith, c.unescape_at-p.ensures.on)
 
 pub loop-i-preserved-then-b-eq92 : goal.loop-i-preserved-then-b-eq92
-loop-i-preserved-then-b-eq92 c = stepped _ _ c.loop-i.invariant c.write_escape-p.ensures
+loop-i-preserved-then-b-eq92 c = stepped _ _ c.loop-i.invariant c.unescape_at-p.ensures c.as_slice.ensures.text c.copy-o.ensures
 
 pub bounds-out-o : goal.bounds-out-o
 bounds-out-o c =
