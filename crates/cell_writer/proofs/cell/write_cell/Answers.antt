@@ -31,8 +31,8 @@ write_text-requires c =
     ∙ sym (cell_as_text a.only a.first a.t (value_of a.src a.kind a.raw.now) (sym c.in-AsText.is ∙ c.form_in.ensures)) in
     record { legible = legible_as c.spelling_in-c.ensures.value (encoded_legible c.requires.encoded); room = room_as as_text c.requires.room }
 
-pub write_number-end-requires : goal.write_number-end-requires
-write_number-end-requires c =
+pub write_number-requires : goal.write_number-requires
+write_number-requires c =
     let a = c.args in
     let cell = cell_text a.t a.only a.first (value_of a.src a.kind a.raw.now) in
     let way : AsNumber ≡ written_as a.t a.kind = sym c.in-AsNumber.is ∙ c.form_in.ensures in
@@ -41,8 +41,8 @@ write_number-end-requires c =
     ∙ sym (cell_as_number a.only a.first a.t (value_of a.src a.kind a.raw.now) way ∙ encoded_number c.requires.encoded (number_way a.t a.kind way)) in
     room_as as_number c.requires.room
 
-pub write_word-end-requires : goal.write_word-end-requires
-write_word-end-requires c =
+pub write_word-requires : goal.write_word-requires
+write_word-requires c =
     let a = c.args in
     let cell = cell_text a.t a.only a.first (value_of a.src a.kind a.raw.now) in
     let as_word : word_for a.t a.kind ≡ cell =
@@ -78,7 +78,7 @@ shape_of-out-in-AsNumber c =
     let as_number : number_in c.spelling_in-c-in-AsNumber.result a.raw.now ≡ cell =
     ap (λ (s : Spelling). number_in s a.raw.now) c.spelling_in-c-in-AsNumber.ensures.value
     ∙ sym (cell_as_number a.only a.first a.t (value_of a.src a.kind a.raw.now) way ∙ encoded_number c.requires.encoded (number_way a.t a.kind way)) in
-    written_long a.write c.requires.room (emitted_as (sym as_number) c.write_number-end.ensures)
+    written_long a.write c.requires.room (emitted_as (sym as_number) c.write_number.ensures)
 
 pub returns-in-AsNumber : goal.returns-in-AsNumber
 returns-in-AsNumber c =
@@ -89,7 +89,7 @@ returns-in-AsNumber c =
     ap (λ (s : Spelling). number_in s a.raw.now) c.spelling_in-c-in-AsNumber.ensures.value
     ∙ sym (cell_as_number a.only a.first a.t (value_of a.src a.kind a.raw.now) way ∙ encoded_number c.requires.encoded (number_way a.t a.kind way)) in
     record {
-      written_at = emitted_as (sym as_number) c.write_number-end.ensures;
+      written_at = emitted_as (sym as_number) c.write_number.ensures;
       lone_value = λ e f. number_no_text (sym c.in-AsNumber.is ∙ text_way a.t a.kind c.form_in.result c.form_in.ensures e f);
     }
 
@@ -99,7 +99,7 @@ shape_of-out-in-AsWord c =
     let cell = cell_text a.t a.only a.first (value_of a.src a.kind a.raw.now) in
     let as_word : word_for a.t a.kind ≡ cell =
     sym (cell_as_word a.only a.first a.t (value_of a.src a.kind a.raw.now) (sym c.in-AsWord.is ∙ c.form_in.ensures)) in
-    written_long a.write c.requires.room (emitted_as (sym as_word) c.write_word-end.ensures)
+    written_long a.write c.requires.room (emitted_as (sym as_word) c.write_word.ensures)
 
 pub returns-in-AsWord : goal.returns-in-AsWord
 returns-in-AsWord c =
@@ -108,6 +108,6 @@ returns-in-AsWord c =
     let as_word : word_for a.t a.kind ≡ cell =
     sym (cell_as_word a.only a.first a.t (value_of a.src a.kind a.raw.now) (sym c.in-AsWord.is ∙ c.form_in.ensures)) in
     record {
-      written_at = emitted_as (sym as_word) c.write_word-end.ensures;
+      written_at = emitted_as (sym as_word) c.write_word.ensures;
       lone_value = λ e f. word_no_text (sym c.in-AsWord.is ∙ text_way a.t a.kind c.form_in.result c.form_in.ensures e f);
     }

@@ -25,7 +25,7 @@ pub unit_at-u-requires : goal.unit_at-u-requires
 unit_at-u-requires c = c.if-raw-j.false
 
 pub is_special_unit-requires : goal.is_special_unit-requires
-is_special_unit-requires c = let u = c.unit_at-u.ensures in record { size_bound = u.few; unit = u.unit }
+is_special_unit-requires c = rw c.as_slice.ensures.text c.unit_at-u.ensures.unit
 
 pub returns-then-is_special_unit : goal.returns-then-is_special_unit
 returns-then-is_special_unit c =
@@ -36,7 +36,7 @@ returns-then-is_special_unit c =
     c.quote_in-q.result c.delimiter_of-r.result
     c.quote_of-p.ensures c.quote_in-q.ensures c.delimiter_of-r.ensures c.plain_run-j.ensures in
     let a = c.args in
-    sym (passed ∙ special_there a.s c.unit_at-u.ensures (sym c.is_special_unit.ensures ∙ c.if-is_special_unit.true))
+    sym (passed ∙ special_there a.s c.unit_at-u.ensures (ap (holds (special a.s)) (sym c.as_slice.ensures.text) ∙ sym c.is_special_unit.ensures ∙ c.if-is_special_unit.true))
 
 pub loop-i-smaller : goal.loop-i-smaller
 loop-i-smaller c = omega (arith, c.unit_at-u.ensures.on, c.unit_at-u.ensures.inside, c.plain_run-j.ensures)
@@ -50,7 +50,7 @@ loop-i-preserved c =
     c.quote_in-q.result c.delimiter_of-r.result
     c.quote_of-p.ensures c.quote_in-q.ensures c.delimiter_of-r.ensures c.plain_run-j.ensures in
     let a = c.args in
-    passed ∙ special_next a.s c.unit_at-u.ensures (sym c.is_special_unit.ensures ∙ c.if-is_special_unit.false)
+    passed ∙ special_next a.s c.unit_at-u.ensures (ap (holds (special a.s)) (sym c.as_slice.ensures.text) ∙ sym c.is_special_unit.ensures ∙ c.if-is_special_unit.false)
 
 pub returns : goal.returns
 returns c =
