@@ -15,7 +15,7 @@ use Rattle.model.specs.rules.Base.{Bytes, choose◌then◌else◌, ◌is◌, QUO
 use Rattle.model.specs.rules.Dialect.{quote_of, is_csvj}
 use Rattle.model.specs.rules.Utf8.{is_surrogate, holds_lone}
 use Rattle.model.specs.rules.Text.{surrogate, json_body, doubled}
-use Rattle.model.proofs.Tests.{split_on, impossible, and_true, is→eq}
+use Rattle.model.proofs.Tests.{split_on, impossible, and_true}
 use Rattle.cell_decoder.specs.Units.{Unit, one}
 use Rattle.cell_decoder.specs.declared.first_byte.Spelling.{Spelling}
 use Rattle.cell_decoder.specs.declared.first_byte.Spelling.TheVariants.{Nothing, AsItStands}

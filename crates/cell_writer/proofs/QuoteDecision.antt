@@ -4,16 +4,15 @@ use mathlib.Core.Bool.{Bool, true, false, ◌&&◌, ◌||◌, and-false, or-fals
 use mathlib.Core.List.{[], ◌∷◌, ◌++◌}
 use Prim.Native.Nat.{ℕ, ◌+◌, ◌≤◌, ◌<◌}
 use native.Mathlib.Omega.{arith}
-use lib.Dec.{leb}
-use lib.ListN.{length, take, drop, get_or, length-take, length-append}
+use lib.ListN.{length, take, drop, get_or, length-append}
 use lib.Seq.{take_at}
-use borrow.Author.Tests.{eq-eqb, ne_eqb, leb-true, leb-false}
+use borrow.Author.Tests.{ne_eqb, leb-true}
 use Rattle.model.specs.declared.Settings.{Settings}
 use Rattle.model.specs.declared.Dialect.TheVariants.{CsvPlus}
-use Rattle.model.specs.rules.Base.{Bytes, choose◌then◌else◌, ◌is◌, CR, LF, holds, is_empty, over}
+use Rattle.model.specs.rules.Base.{Bytes, choose◌then◌else◌, CR, LF, holds, is_empty, over}
 use Rattle.model.specs.rules.Dialect.{quote_of, delimiter_of}
 use Rattle.model.specs.rules.Text.{special, begins_bom, quoted_text, csv_plus_cell, has_quotes}
-use Rattle.model.proofs.Tests.{split_on, impossible, is→eq}
+use Rattle.model.proofs.Tests.{split_on}
 use Rattle.model.proofs.cell_laws.Utf8.{quote_ascii, delimiter_ascii}
 use Rattle.cell_decoder.specs.Units.{Unit, one, two, three, four}
 use Rattle.cell_decoder.specs.declared.first_byte.Spelling.{Spelling}

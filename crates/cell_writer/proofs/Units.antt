@@ -2,18 +2,16 @@
 use mathlib.Core.Path.{◌≡◌, refl, sym, ap, ◌∙◌}
 use mathlib.Core.Bool.{true, false, ◌||◌}
 use mathlib.Core.List.{[], ◌∷◌, ◌++◌, append-nil, append_assoc}
-use Prim.Native.Nat.{ℕ, ◌/◌, ◌%◌, ◌≤◌, ◌<◌}
+use Prim.Native.Nat.{ℕ, ◌≤◌}
 use native.Mathlib.Omega.{arith}
-use lib.Dec.{leb}
-use lib.ListN.{length, take, get_or, length-take}
-use lib.Seq.{take-append-le}
-use borrow.Author.Tests.{eq-eqb, ne_eqb, le-leb, lt-leb}
+use lib.ListN.{length, get_or}
+use borrow.Author.Tests.{ne_eqb, le-leb}
 use Rattle.model.specs.declared.Dialect.{Dialect}
 use Rattle.model.specs.declared.Dialect.TheVariants.{Csvj, Tdif, CsvPlus}
 use Rattle.model.specs.rules.Dialect.{quote_of, is_csvj}
 use Rattle.model.specs.rules.Base.{Bytes, choose◌then◌else◌, ◌is◌, QUOTE, BACKSLASH}
 use Rattle.model.specs.rules.Utf8.{is_surrogate, holds_lone}
-use Rattle.model.specs.rules.Text.{hex_digit, escaped, surrogate, json_body, doubled}
+use Rattle.model.specs.rules.Text.{escaped, surrogate, json_body, doubled}
 use Rattle.model.proofs.Tests.{split_on, impossible}
 use Rattle.model.proofs.cell_laws.Utf8.{quote_ascii}
 use Rattle.cell_decoder.specs.Units.{Unit, one, two, three, four, Lead, Later}
