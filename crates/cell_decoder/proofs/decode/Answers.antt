@@ -1,6 +1,4 @@
 -- `cell_decoder::decode` meets its contract, by the dialect that the number names.
-use mathlib.Core.Path.{sym, ap, ◌∙◌}
-use Rattle.core.specs.Result.{result_ok}
 use Rattle.cell_decoder.proofs.DecoderAnswers.{known, unknown}
 use Rattle.cell_decoder.proofs.decode.Goals as goal
 

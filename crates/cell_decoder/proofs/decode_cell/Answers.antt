@@ -1,9 +1,7 @@
 -- `cell_decoder::decode_cell` meets its contract: a refusal names the fault that the check found.
-use mathlib.Core.Path.{◌≡◌, sym}
+use mathlib.Core.Path.{sym}
 use borrow.Author.Rules.{rules}
-use Rattle.std.specs.Result.{MatchResult}
 use Rattle.std.proofs.lemmas.Result.{err_from_is_err_and, MatchResult-weaker}
-use Rattle.model.specs.rules.Report.{report, number_of, column_of}
 use Rattle.cell_decoder.proofs.DecoderAnswers.{unsound_by}
 use Rattle.cell_decoder.proofs.decode_cell.Goals as goal
 
