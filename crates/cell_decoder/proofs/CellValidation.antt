@@ -62,7 +62,7 @@ validated d raw r e =
 -- a fault of a cell names no column
 abbrev column_in : CellCheck → ℕ
 column_in (Ok _) = 0
-column_in (Err (cell_fault e i)) = column_of e
+column_in (Err f) = column_of f.fault
 
 pub no_column : (d : Dialect) (raw : Bytes) (e : Fault) (i : ℕ) → validate_cell d raw ≡ Err (cell_fault e i) → column_of e ≡ 0
 no_column d raw e i j =

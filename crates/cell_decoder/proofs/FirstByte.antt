@@ -4,6 +4,7 @@ use mathlib.Core.Bool.{Bool, true, false, ◌||◌}
 use mathlib.Core.List.{[], ◌∷◌}
 use lib.ListN.{get_or}
 use Prim.Native.Nat.{ℕ}
+use borrow.Author.Tests.{eq-eqb, ne_eqb}
 use Rattle.model.specs.declared.Settings.{Settings}
 use Rattle.model.specs.declared.Dialect.{Dialect}
 use Rattle.model.specs.declared.Dialect.TheVariants.{Csvj, Tdif, CsvPlus}
@@ -37,12 +38,17 @@ content_first Tdif (b ∷ bs) = in_choice (b is QUOTE) (Doubled QUOTE) Nothing (
 content_first (CsvPlus s) [] = plus_none s
 content_first (CsvPlus s) (b ∷ bs) = in_choice (b is quote_of (CsvPlus s)) (Doubled (quote_of (CsvPlus s))) AsItStands (b ∷ bs)
 
--- the encoding after the dialect's own quote
-pub encoded_tdif : (d : Dialect) (q b : ℕ) (r : Spelling) → d ≡ Tdif → q ≡ quote_of d → r ≡ (choose b is q then Doubled q else Nothing) → r ≡ spelling_by d b
-unfolding spelling_by
-encoded_tdif d q b r e f h = rw e (rw (f, e) at h)
+-- the encoding in TDIF and CSV+: after the dialect's own quote, and otherwise
+pub quoted_first : (d : Dialect) (b : ℕ) → (d ≡ Csvj → ⊥) → b ≡ quote_of d → spelling_by d b ≡ Doubled (quote_of d)
+unfolding spelling_by choose◌then◌else◌
+quoted_first Csvj b n e = absurd (n refl)
+quoted_first Tdif b n e = rw (eq-eqb b QUOTE e)
+quoted_first (CsvPlus s) b n e = rw (eq-eqb b (quote_of (CsvPlus s)) e)
 
-pub encoded_plus : (d : Dialect) (s : Settings) (q b : ℕ) (r : Spelling) → d ≡ CsvPlus s → q ≡ quote_of d
-    → r ≡ (choose b is q then Doubled q else AsItStands) → r ≡ spelling_by d b
-unfolding spelling_by
-encoded_plus d s q b r e f h = rw e (rw (f, e) at h)
+pub other_tdif : (d : Dialect) (q b : ℕ) → d ≡ Tdif → (b ≡ q → ⊥) → q ≡ quote_of d → Nothing ≡ spelling_by d b
+unfolding spelling_by choose◌then◌else◌
+other_tdif d q b e n f = rw (e, ne_eqb b QUOTE (rw (f, e) at n))
+
+pub other_plus : (d : Dialect) (s : Settings) (q b : ℕ) → d ≡ CsvPlus s → (b ≡ q → ⊥) → q ≡ quote_of d → AsItStands ≡ spelling_by d b
+unfolding spelling_by choose◌then◌else◌
+other_plus d s q b e n f = rw (e, ne_eqb b (quote_of (CsvPlus s)) (rw (f, e) at n))

@@ -4,20 +4,20 @@ use mathlib.Core.Bool.{true, false, and-false}
 use mathlib.Core.List.{List, [], ◌∷◌, ◌++◌, append-nil}
 use Prim.Native.Nat.{ℕ, ◌+◌, ◌-◌, ◌*◌, ◌<◌, ◌≤◌}
 use native.Mathlib.Omega.{arith}
-use lib.ListN.{length, take, drop, get_or, drop_of_length-le, length-append, length-drop}
+use lib.ListN.{length, drop, get_or, drop_of_length-le, length-append, length-drop}
 use borrow.Author.Tests.{ne_eqb, le-leb, lt-leb}
 use Rattle.model.specs.rules.Base.{choose◌then◌else◌, Bytes, ◌is◌, within, QUOTE, BACKSLASH}
 use Rattle.model.specs.rules.Utf8.{pack, joined, is_high, is_low}
 use Rattle.model.specs.rules.Decode.{Unit16, byte, unit, short_of, hex_of, InString, between, escape, digits, units, text_of}
 use Rattle.model.specs.declared.HexLeft.TheVariants.{Four}
 use Rattle.model.proofs.Tests.{split, is→eq, within_true}
+use Rattle.buffer.specs.Writes.{written}
 use Rattle.buffer.proofs.WriteProgress.{drop_next, Writing, put}
-use Rattle.utf8.specs.Codes.{Packs, Joins}
+use Rattle.utf8.specs.Codes.{packed, Joins}
 use Rattle.utf8.proofs.Codes.{packed_is, packed_most}
-use Rattle.cell_decoder.specs.Strings.{string_from, unit_at, Lone, UnitThere, LowThere, LowAt, Proceeds}
-use Rattle.cell_decoder.specs.WrittenContent.{Stepped}
+use Rattle.cell_decoder.specs.Strings.{string_from, unit_at, Lone, UnitThere, LowThere, Proceeds}
 use Rattle.cell_decoder.specs.Units.{one}
-use Rattle.cell_decoder.proofs.Units.{packed_unit, packed_single, short_ed}
+use Rattle.cell_decoder.proofs.Units.{packed_unit, packed_no_ed, short_ed}
 
 -- ---- the bytes at an offset
 
@@ -122,28 +122,25 @@ module _ (raw : Bytes) (i : ℕ) (u : UnitThere raw i) where
 
 -- ---- the low surrogate at an offset
 
-low_none : (raw : Bytes) (i : ℕ) → Lone (units between (drop i raw)) → LowAt raw i 0
-low_none raw i l = record { some = λ h. absurd (omega arith); none = λ _. l }
-
-pub low_cut : (raw : Bytes) (i : ℕ) → length raw - i < 6 → LowAt raw i 0
-low_cut raw i h = low_none raw i (lone_cut (drop i raw) (rw length-drop h))
+pub low_cut : (raw : Bytes) (i : ℕ) → length raw - i < 6 → Lone (units between (drop i raw))
+low_cut raw i h = lone_cut (drop i raw) (rw length-drop h)
 
 lone_other : (b : ℕ) (bs : Bytes) → (b ≡ BACKSLASH → ⊥) → Lone (units between (b ∷ bs))
 unfolding units
 lone_other b bs e =
     split Lone (b is QUOTE) (λ _. lone_nil) λ _. split Lone (b is BACKSLASH) (λ t. absurd (e (is→eq b BACKSLASH t))) λ _. lone_byte b (units between bs)
 
-pub low_other : (raw : Bytes) (i : ℕ) → i < length raw → (get_or raw i 0 ≡ BACKSLASH → ⊥) → LowAt raw i 0
-low_other raw i h e = low_none raw i (rw (drop_next raw i (i + 1) h refl) (lone_other (get_or raw i 0) (drop (i + 1) raw) e))
+pub low_other : (raw : Bytes) (i : ℕ) → i < length raw → (get_or raw i 0 ≡ BACKSLASH → ⊥) → Lone (units between (drop i raw))
+low_other raw i h e = rw (drop_next raw i (i + 1) h refl) (lone_other (get_or raw i 0) (drop (i + 1) raw) e)
 
-pub low_short : (raw : Bytes) (i : ℕ) → i + 1 < length raw → get_or raw i 0 ≡ BACKSLASH → (get_or raw (i + 1) 0 ≡ 0x75 → ⊥) → LowAt raw i 0
+pub low_short : (raw : Bytes) (i : ℕ) → i + 1 < length raw → get_or raw i 0 ≡ BACKSLASH → (get_or raw (i + 1) 0 ≡ 0x75 → ⊥)
+    → Lone (units between (drop i raw))
 low_short raw i h e u =
-    low_none raw i
-    (rw (at_backslash raw i (i + 1) (omega arith) refl e, at_short raw (i + 1) (i + 2) h (omega arith) u)
-    (lone_byte (short_of (get_or raw (i + 1) 0)) (units between (drop (i + 2) raw))))
+    rw (at_backslash raw i (i + 1) (omega arith) refl e, at_short raw (i + 1) (i + 2) h (omega arith) u)
+    (lone_byte (short_of (get_or raw (i + 1) 0)) (units between (drop (i + 2) raw)))
 
-low_not : (raw : Bytes) (i : ℕ) → UnitThere raw i → is_low (unit_at raw (i + 2)) ≡ false → LowAt raw i 0
-low_not raw i u e = low_none raw i (rw (at_unit raw i u) (lone_unit (unit_at raw (i + 2)) (units between (drop (i + 6) raw)) e))
+low_not : (raw : Bytes) (i : ℕ) → UnitThere raw i → is_low (unit_at raw (i + 2)) ≡ false → Lone (units between (drop i raw))
+low_not raw i u e = rw (at_unit raw i u) (lone_unit (unit_at raw (i + 2)) (units between (drop (i + 6) raw)) e)
 
 pub below : (lo hi u : ℕ) → u < lo → within lo hi u ≡ false
 below lo hi u h = rw (lt-leb lo u h)
@@ -154,22 +151,18 @@ above lo hi u l h = rw (le-leb lo u l, lt-leb u hi h)
 pub amid : (lo hi u : ℕ) → lo ≤ u → u ≤ hi → within lo hi u ≡ true
 amid lo hi u l h = rw (le-leb lo u l, le-leb u hi h)
 
-pub low_below : (raw : Bytes) (i : ℕ) → UnitThere raw i → unit_at raw (i + 2) < 0xDC00 → LowAt raw i 0
+pub low_below : (raw : Bytes) (i : ℕ) → UnitThere raw i → unit_at raw (i + 2) < 0xDC00 → Lone (units between (drop i raw))
 low_below raw i u h = low_not raw i u (below 0xDC00 0xDFFF (unit_at raw (i + 2)) h)
 
-pub low_above : (raw : Bytes) (i : ℕ) → UnitThere raw i → 0xDFFF < unit_at raw (i + 2) → LowAt raw i 0
+pub low_above : (raw : Bytes) (i : ℕ) → UnitThere raw i → 0xDFFF < unit_at raw (i + 2) → Lone (units between (drop i raw))
 low_above raw i u h = low_not raw i u (above 0xDC00 0xDFFF (unit_at raw (i + 2)) (omega arith) h)
 
-pub low_there : (raw : Bytes) (i r : ℕ) → UnitThere raw i → r ≡ unit_at raw (i + 2) → 0xDC00 ≤ r → r ≤ 0xDFFF → LowAt raw i r
+pub low_there : (raw : Bytes) (i r : ℕ) → UnitThere raw i → r ≡ unit_at raw (i + 2) → 0xDC00 ≤ r → r ≤ 0xDFFF → LowThere raw i r
 low_there raw i r u e lo hi =
     record {
-      some =
-          λ _. record {
-            low = amid 0xDC00 0xDFFF r lo hi;
-            inside = u.inside;
-            there = at_unit raw i u ∙ ap (λ (n : ℕ). unit n ∷ units between (drop (i + 6) raw)) (sym e);
-          };
-      none = λ z. absurd (omega arith);
+      low = amid 0xDC00 0xDFFF r lo hi;
+      inside = u.inside;
+      there = at_unit raw i u ∙ ap (λ (n : ℕ). unit n ∷ units between (drop (i + 6) raw)) (sym e);
     }
 
 -- ---- parts of a string
@@ -186,82 +179,74 @@ cut_unit raw i h s e u =
     ∙ cut_digits (drop (i + 2) raw) (rw length-drop (omega arith))
 
 -- an escape that is cut short has no content
-pub proceeds_cut : (raw : Bytes) (i : ℕ) (bytes : Bytes) → i < length raw → units between (drop i raw) ≡ [] → Proceeds raw i bytes 0 (length raw)
+pub proceeds_cut : (raw : Bytes) (i : ℕ) {text : Bytes} {next : ℕ} → i < length raw → units between (drop i raw) ≡ []
+    → (text ≡ []) × (next ≡ length raw) → Proceeds raw i text next
 unfolding text_of
-proceeds_cut raw i bytes h e =
-    record {
+proceeds_cut raw i h e p =
+    rw (p.0, p.1) (record {
       stands = rw (e, at_end between raw (length raw) (omega arith));
       on = omega arith;
       inside = omega arith;
-      few = omega arith;
-      sized = refl;
       unit = λ z. absurd (omega arith);
-      single = λ z f. absurd (omega arith);
-    }
+      single = λ f. let z : ◌≡◌ {A = ℕ} 0 1 = ap length f in absurd (omega arith);
+    })
 
-pub proceeds_short : (raw : Bytes) (i b : ℕ) (bytes : Bytes) → i + 1 < length raw → get_or raw i 0 ≡ BACKSLASH → (get_or raw (i + 1) 0 ≡ 0x75 → ⊥)
-    → b ≡ short_of (get_or raw (i + 1) 0) → Proceeds raw i (b ∷ bytes) 1 (i + 2)
+pub proceeds_short : (raw : Bytes) (i b : ℕ) {text : Bytes} {next : ℕ} → i + 1 < length raw → get_or raw i 0 ≡ BACKSLASH
+    → (get_or raw (i + 1) 0 ≡ 0x75 → ⊥) → b ≡ short_of (get_or raw (i + 1) 0)
+    → (text ≡ b ∷ []) × (next ≡ i + 2) → Proceeds raw i text next
 unfolding text_of
-proceeds_short raw i b bytes h e u s =
-    record {
+proceeds_short raw i b h e u s p =
+    rw (p.0, p.1) (record {
       stands = rw (at_backslash raw i (i + 1) (omega arith) refl e, at_short raw (i + 1) (i + 2) h (omega arith) u, s);
       on = omega arith;
       inside = omega arith;
-      few = omega arith;
-      sized = refl;
       unit = λ _. one b;
-      single = λ _ f. let at : i + 2 - 1 ≡ i + 1 = omega arith in rw at (short_ed (get_or raw (i + 1) 0) (sym s ∙ f));
-    }
+      single =
+          λ f. let at : i + 2 - 1 ≡ i + 1 = omega arith in
+          rw at (short_ed (get_or raw (i + 1) 0) (sym s ∙ ap (λ (l : Bytes). get_or l 0 0) f));
+    })
 
 -- a code point
-proceeds_packed : (raw : Bytes) (i u : ℕ) (bytes : Bytes) (size next : ℕ) → Packs u bytes size → u ≤ 0x10FFFF
-    → string_from raw i ≡ pack u ++ string_from raw next → i + 4 < next → next ≤ length raw → Proceeds raw i bytes size next
-proceeds_packed raw i u bytes size next p k e on inside =
-    let four : size ≤ 4 = omega (arith, p.sized, packed_most u) in
-    record {
-      stands = e ∙ ap (λ (l : Bytes). l ++ string_from raw next) (sym (p.packs ∙ packed_is u k));
-      on = omega arith;
+proceeds_packed : (raw : Bytes) (i u : ℕ) {text : Bytes} (next : ℕ) → text ≡ packed u → u ≤ 0x10FFFF
+    → string_from raw i ≡ pack u ++ string_from raw next → i + 4 < next → next ≤ length raw → Proceeds raw i text next
+proceeds_packed raw i u next p k e on inside =
+    rw p (record {
+      stands = e ∙ ap (λ (l : Bytes). l ++ string_from raw next) (sym (packed_is u k));
+      on = omega (arith, packed_most u);
       inside = inside;
-      few = four;
-      sized = ap length p.packs ∙ sym p.sized;
-      unit = λ _. rw p.packs (packed_unit u k);
-      single = λ z f. absurd (omega (arith, packed_single u bytes size k p z));
-    }
+      unit = λ _. packed_unit u k;
+      single = λ f. absurd (packed_no_ed u k f);
+    })
 
-module _ (raw : Bytes) (i h : ℕ) (u : UnitThere raw i) (e : h ≡ unit_at raw (i + 2)) (most : h ≤ 733992) (bytes : Bytes) (size next : ℕ) where
+module _ (raw : Bytes) (i h : ℕ) (u : UnitThere raw i) (e : h ≡ unit_at raw (i + 2)) (most : h ≤ 733992) where
   from_unit : string_from raw i ≡ text_of (unit h ∷ units between (drop (i + 6) raw))
   from_unit = ap text_of (at_unit raw i u ∙ ap (λ (n : ℕ). unit n ∷ units between (drop (i + 6) raw)) (sym e))
 
   -- no high surrogate
-  pub goes_calm : is_high h ≡ false → Packs h bytes size → next ≡ i + 6 → Proceeds raw i bytes size next
-  goes_calm c p n =
-      rw n (proceeds_packed raw i h bytes size (i + 6) p (omega arith) (from_unit ∙ calm h (units between (drop (i + 6) raw)) c) (omega arith) u.inside)
+  pub goes_calm : is_high h ≡ false → {text : Bytes} → text ≡ packed h → Proceeds raw i text (i + 6)
+  goes_calm c p = proceeds_packed raw i h (i + 6) p (omega arith) (from_unit ∙ calm h (units between (drop (i + 6) raw)) c) (omega arith) u.inside
 
   -- a high surrogate that no low one follows
-  pub goes_lone : (l : ℕ) → LowAt raw (i + 6) l → l ≡ 0 → Packs h bytes size → next ≡ i + 6 → Proceeds raw i bytes size next
-  goes_lone l w z p n = rw n (proceeds_packed raw i h bytes size (i + 6) p (omega arith) (from_unit ∙ w.none z h) (omega arith) u.inside)
+  pub goes_lone : Lone (units between (drop (i + 6) raw)) → {text : Bytes} → text ≡ packed h → Proceeds raw i text (i + 6)
+  goes_lone w p = proceeds_packed raw i h (i + 6) p (omega arith) (from_unit ∙ w h) (omega arith) u.inside
 
   -- a surrogate pair
-  pub goes_pair : (l v : ℕ) → is_high h ≡ true → LowAt raw (i + 6) l → (l ≡ 0 → ⊥) → Joins h l v → Packs v bytes size → next ≡ i + 12
-      → Proceeds raw i bytes size next
-  goes_pair l v t a z j p n =
-      let w : LowThere raw (i + 6) l = a.some (omega arith) in
+  pub goes_pair : (l v : ℕ) → is_high h ≡ true → LowThere raw (i + 6) l → Joins h l v → {text : Bytes} → text ≡ packed v → Proceeds raw i text (i + 12)
+  goes_pair l v t w j p =
       let hs = within_true 0xD800 0xDBFF h t in
       let ls = within_true 0xDC00 0xDFFF l w.low in
       let whole : v ≡ joined h l = j.joins t w.low in
       let at : i + 6 + 6 ≡ i + 12 = omega arith in
-      rw n
-      (proceeds_packed raw i v bytes size (i + 12) p (omega arith)
+      proceeds_packed raw i v (i + 12) p (omega arith)
       (from_unit
       ∙ ap (λ (us : List Unit16). text_of (unit h ∷ us)) w.there
       ∙ pair h l (units between (drop (i + 6 + 6) raw)) t w.low
       ∙ rw (at, whole))
-      (omega arith) (rw at at w.inside))
+      (omega arith) (rw at at w.inside)
 
-pub proceeds_length : {raw : Bytes} {i : ℕ} {bytes : Bytes} {size next : ℕ} → Proceeds raw i bytes size next
-    → length (string_from raw i) ≡ size + length (string_from raw next)
-proceeds_length {raw} {i} {bytes} {size} {next} g =
-    ap length g.stands ∙ length-append (take size bytes) (string_from raw next) ∙ ap (λ (n : ℕ). n + length (string_from raw next)) g.sized
+pub proceeds_length : {raw : Bytes} {i : ℕ} {text : Bytes} {next : ℕ} → Proceeds raw i text next
+    → length (string_from raw i) ≡ length text + length (string_from raw next)
+proceeds_length {raw} {i} {text} {next} g = ap length g.stands ∙ length-append text (string_from raw next)
 
 -- ---- the content of a string at an offset
 
@@ -280,5 +265,6 @@ module _ (raw : Bytes) (i : ℕ) where
 
 -- a part of a string is written
 pub stepped : {old : Bytes} {at : ℕ} {whole out : Bytes} {o : ℕ} (raw : Bytes) (i : ℕ) → Writing old at whole out o (string_from raw i)
-    → {new : Bytes} {read write : ℕ} → Stepped raw i out o new read write → Writing old at whole new write (string_from raw read)
-stepped raw i p t = rw (t.text, t.place) (put t.w (rw t.stands at p))
+    → {text : Bytes} {next : ℕ} → Proceeds raw i text next → {w : Bytes} → w ≡ text → {new : Bytes} {r : ℕ}
+    → (r ≡ o + length w) × (new ≡ written out o w) → Writing old at whole new r (string_from raw next)
+stepped raw i p {text} g e q = rw (q.1, q.0, e) (put text (rw g.stands at p))

@@ -4,12 +4,12 @@ use mathlib.Core.List.{[], ◌∷◌}
 use Prim.Native.Nat.{ℕ, ◌+◌, ◌/◌, ◌%◌, ◌≤◌, ◌<◌}
 use native.Mathlib.Omega.{arith}
 use lib.Dec.{leb}
-use lib.ListN.{length, take, get_or}
+use lib.ListN.{length, get_or}
 use borrow.Author.Tests.{leb-true, leb-false}
 use Rattle.model.specs.rules.Base.{Bytes, choose◌then◌else◌, ◌is◌}
 use Rattle.model.specs.rules.Decode.{short_of}
 use Rattle.model.proofs.Tests.{split_on}
-use Rattle.utf8.specs.Codes.{packed, Packs}
+use Rattle.utf8.specs.Codes.{packed}
 use Rattle.utf8.proofs.Codes.{packed_one, packed_two, packed_three, packed_four}
 use Rattle.cell_decoder.specs.Units.{Lead, Later, Unit, one, two, three, four}
 
@@ -43,14 +43,11 @@ packed_ascii u most l =
     split_on (leb u 0xFFFF) (λ g. let n : 3 ≡ 1 = sym (ap length (packed_three u b (leb-true u 0xFFFF g))) ∙ l in absurd (omega arith)) λ g.
     let n : 4 ≡ 1 = sym (ap length (packed_four u (leb-false u 0xFFFF g) most)) ∙ l in absurd (omega arith)
 
-first_taken : (l : Bytes) (n x : ℕ) → n ≡ 1 → take n l ≡ x ∷ [] → get_or l 0 0 ≡ x
-first_taken [] n x e f = let z : ◌≡◌ {A = ℕ} 0 1 = ap length (rw e at f) in absurd (omega arith)
-first_taken (a ∷ l) n x e f = ap (λ (m : Bytes). get_or m 0 0) (rw e at f)
-
-pub packed_single : (u : ℕ) (bytes : Bytes) (size : ℕ) → u ≤ 0x10FFFF → Packs u bytes size → size ≡ 1 → get_or bytes 0 0 ≤ 0x7F
-packed_single u bytes size most p e =
-    let h : u ≤ 0x7F = packed_ascii u most (sym p.sized ∙ e) in
-    let f : get_or bytes 0 0 ≡ u = first_taken bytes size u e (p.packs ∙ packed_one u h) in
+-- the bytes of no code point are ED alone
+pub packed_no_ed : (u : ℕ) → u ≤ 0x10FFFF → packed u ≡ 0xED ∷ [] → ⊥
+packed_no_ed u most e =
+    let h : u ≤ 0x7F = packed_ascii u most (ap length e) in
+    let f : u ≡ 0xED = ap (λ (l : Bytes). get_or l 0 0) (sym (packed_one u h) ∙ e) in
     omega arith
 
 -- only ED is the short escape of ED

@@ -14,9 +14,9 @@ pub record CellAnswer : Type 0 where
   pub kind : ℕ
   pub size : ℕ
 
--- what each case of the decoder's result means: the content's length and kind, or a refusal, whose length and kind are 0 (§9.2 §11.1 §19.7)
+-- what the decoder returns means: the content's length and kind, or a refusal, whose length and kind are 0 (§9.2 §11.1 §19.7)
 abbrev pub given_answer : Result Decoded Report → CellAnswer
-given_answer (Ok x) = record { report = accepted; kind = kind_number x.kind; size = x.size }
+given_answer (Ok a) = record { report = accepted; kind = kind_number a.kind; size = a.size }
 given_answer (Err e) = record { report = e; kind = 0; size = 0 }
 
 -- the definition's answer with the length of its content; the content itself is in the room

@@ -1,6 +1,5 @@
 pub mod Units
 pub mod Strings
-pub mod WrittenContent
 pub mod FirstByte
 pub mod Answer
 pub mod Followed

@@ -1,5 +1,5 @@
 -- The content of a CSVJ string from an offset on, and of the escape there.
-use Rattle.std.specs.Prelude.{ℕ, ◌+◌, ◌-◌, ◌*◌, ◌<◌, ◌≤◌, ◌≡◌, true, List, ◌∷◌, ◌++◌, length, take, drop, get_or}
+use Rattle.std.specs.Prelude.{ℕ, ◌+◌, ◌-◌, ◌*◌, ◌<◌, ◌≤◌, ◌≡◌, true, Option, Some, None, List, [], ◌∷◌, ◌++◌, length, drop, get_or}
 use Rattle.model.specs.rules.Base.{Bytes, BACKSLASH}
 use Rattle.model.specs.rules.Utf8.{pack, is_low}
 use Rattle.model.specs.rules.Decode.{Unit16, unit, hex_of, between, units, text_of}
@@ -30,18 +30,16 @@ pub record LowThere (raw : Bytes) (i r : ℕ) : Type 0 where
   pub inside : i + 6 ≤ length raw
   pub there : units between (drop i raw) ≡ unit r ∷ units between (drop (i + 6) raw)
 
--- the low surrogate of the escape at i, or 0 if there is none
-pub record LowAt (raw : Bytes) (i r : ℕ) : Type 0 where
-  pub some : 0 < r → LowThere raw i r
-  pub none : r ≡ 0 → Lone (units between (drop i raw))
+-- the low surrogate of the escape at i, if there is one
+abbrev pub LowAt : Bytes → ℕ → Option ℕ → Type 0
+LowAt raw i (Some l) = LowThere raw i l
+LowAt raw i None = Lone (units between (drop i raw))
 
--- the first `size` of `bytes` are the string's content at i, one unit or nothing, and the string continues at `next`; a single byte ED is
--- in the string itself, before `next`
-pub record Proceeds (raw : Bytes) (i : ℕ) (bytes : Bytes) (size next : ℕ) : Type 0 where
-  pub stands : string_from raw i ≡ take size bytes ++ string_from raw next
-  pub on : i + size < next
+-- `text` is the string's content at i, one unit or nothing, and the string continues at `next`; a single byte ED is in the string itself,
+-- before `next`
+pub record Proceeds (raw : Bytes) (i : ℕ) (text : Bytes) (next : ℕ) : Type 0 where
+  pub stands : string_from raw i ≡ text ++ string_from raw next
+  pub on : i + length text < next
   pub inside : next ≤ length raw
-  pub few : size ≤ 4
-  pub sized : length (take size bytes) ≡ size
-  pub unit : 0 < size → Unit (take size bytes)
-  pub single : size ≡ 1 → get_or bytes 0 0 ≡ 0xED → get_or raw (next - 1) 0 ≡ 0xED
+  pub unit : 0 < length text → Unit text
+  pub single : text ≡ 0xED ∷ [] → get_or raw (next - 1) 0 ≡ 0xED

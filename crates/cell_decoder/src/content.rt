@@ -1,12 +1,11 @@
 // The content of a cell, measured or written into a lent room: the encoding and the raw bytes go in, the length or the content comes out.
 // The definition is `content_in` of specs/FirstByte.antt (`content_of` of model's specs/rules/Decode.antt). The loops are proved by
 // `Writing` of buffer; a new encoding is a pair of functions and an arm in `length_in` and `write_in`.
-ghost use Rattle.std.specs.Prelude.{◌≡◌, ◌+◌, ◌<◌, ◌≤◌, false, length, drop, get_or};
-ghost use Rattle.model.specs.rules.Base.{BACKSLASH, over};
+ghost use Rattle.std.specs.Prelude.{◌≡◌, ◌≤◌, false, length, drop};
+ghost use Rattle.model.specs.rules.Base.{over};
 ghost use Rattle.model.specs.rules.Decode.{undouble};
 ghost use Rattle.cell_decoder.specs.Strings.{string_from};
 ghost use Rattle.cell_decoder.specs.FirstByte.{content_in};
-ghost use Rattle.cell_decoder.specs.WrittenContent.{Stepped};
 
 use crate::escape;
 use crate::first_byte::Spelling;
@@ -69,12 +68,12 @@ fn string_length(raw: &[u8]) -> usize
     let mut n: usize = 0;
     while i < raw.len() {
         let b = raw[i];
-        if b == 0x22 {
+        if b == b'"' {
             return n;
         }
-        if b == 0x5C {
+        if b == b'\\' {
             let p = escape::unescape_at(raw, i);
-            n += p.size;
+            n += p.text.as_slice().len();
             i = p.next;
         } else {
             n += 1;
@@ -82,29 +81,6 @@ fn string_length(raw: &[u8]) -> usize
         }
     }
     n
-}
-
-// The offsets at which a string is read and written next.
-#[derive(Clone, Copy)]
-struct Cursor {
-    read: usize,
-    write: usize,
-}
-
-// The escape whose backslash is at i, written at o.
-fn write_escape(raw: &[u8], i: usize, out: &mut [u8], o: usize) -> Cursor
-    requires at_backslash { (i < length raw.now) × (get_or raw.now i 0 ≡ BACKSLASH) }
-    requires room { o + length (string_from raw.now i) ≤ length out.old }
-    ensures { Stepped raw.now i out.old o out.new result.read result.write }
-{
-    let p = escape::unescape_at(raw, i);
-    let bytes = p.bytes;
-    let size = p.size;
-    let write = buffer::copy(out, o, &bytes[..size]);
-    Cursor {
-        read: p.next,
-        write,
-    }
 }
 
 // The string after an opening quote.
@@ -116,13 +92,13 @@ fn write_string(raw: &[u8], out: &mut [u8])
     let mut o = 0;
     while i < raw.len() {
         let b = raw[i];
-        if b == 0x22 {
+        if b == b'"' {
             return;
         }
-        if b == 0x5C {
-            let p = write_escape(raw, i, out, o);
-            i = p.read;
-            o = p.write;
+        if b == b'\\' {
+            let p = escape::unescape_at(raw, i);
+            o = buffer::copy(out, o, p.text.as_slice());
+            i = p.next;
         } else {
             out[o] = b;
             o += 1;

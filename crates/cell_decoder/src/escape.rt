@@ -2,63 +2,65 @@
 // specs/Strings.antt).
 //
 // The escape of a high surrogate looks ahead for a low one (§2.8), so that no state is saved from one escape to the next.
-ghost use Rattle.std.specs.Prelude.{◌≡◌, ◌+◌, ◌-◌, ◌<◌, ◌≤◌, length, get_or};
+ghost use Rattle.std.specs.Prelude.{◌≡◌, ◌+◌, ◌<◌, ◌≤◌, [], ◌∷◌, length, get_or};
 ghost use Rattle.model.specs.rules.Base.{BACKSLASH};
 ghost use Rattle.model.specs.rules.Decode.{hex_of, short_of};
 ghost use Rattle.cell_decoder.specs.Strings.{unit_at, UnitThere, LowAt, Proceeds};
-ghost use Rattle.utf8.specs.Codes.{Packs};
 
-// The bytes of a part of a string, the first `size` of `bytes`, and where the string continues.
-#[derive(Clone, Copy)]
+use buffer::short::Short;
+
+// The bytes of a part of a string, and where the string continues.
+#[derive(Drop)]
 pub struct Unescaped {
-    pub bytes: [u8; 4],
-    pub size: usize,
+    pub text: Short<4>,
     pub next: usize,
 }
 
-// b - by, or 0 if that is negative.
-fn saturating_sub(b: u8, by: u8) -> u32
-    ensures { result ≡ b - by }
-{
-    if b < by {
-        return 0;
+impl Unescaped {
+    // One byte.
+    pub fn byte(b: u8, next: usize) -> Unescaped
+        ensures { (result.text ≡ b ∷ []) × (result.next ≡ next) }
+    {
+        Unescaped {
+            text: Short::new([b, 0, 0, 0], 1),
+            next,
+        }
     }
-    (b - by) as u32
+
+    // Nothing, up to the end of the cell.
+    pub fn end_of(raw: &[u8]) -> Unescaped
+        ensures { (result.text ≡ []) × (result.next ≡ length raw.now) }
+    {
+        Unescaped {
+            text: Short::new([0; 4], 0),
+            next: raw.len(),
+        }
+    }
 }
 
 // The value of a hexadecimal digit.
 fn hex_of(b: u8) -> u32
     ensures { (result ≡ hex_of b) × (result ≤ 168) }
 {
-    if b <= 0x39 {
-        return saturating_sub(b, 0x30);
+    match b {
+        ..=b'9' => b.saturating_sub(b'0') as u32,
+        ..=b'F' => b.saturating_sub(b'A' - 10) as u32,
+        _ => b.saturating_sub(b'a' - 10) as u32,
     }
-    if b <= 0x46 {
-        return saturating_sub(b, 0x37);
-    }
-    saturating_sub(b, 0x57)
 }
 
 // The byte that an escape of one letter means (§3.6).
 fn short_escape(b: u8) -> u8
     ensures { result ≡ short_of b }
 {
-    if b == 0x62 {
-        return 0x08;
+    match b {
+        b'b' => 0x08,
+        b'f' => 0x0C,
+        b'n' => b'\n',
+        b'r' => b'\r',
+        b't' => b'\t',
+        _ => b,
     }
-    if b == 0x66 {
-        return 0x0C;
-    }
-    if b == 0x6E {
-        return 0x0A;
-    }
-    if b == 0x72 {
-        return 0x0D;
-    }
-    if b == 0x74 {
-        return 0x09;
-    }
-    b
 }
 
 // The code unit of the four digits at i.
@@ -73,89 +75,55 @@ fn unit_at(raw: &[u8], i: usize) -> u32
     ((a * 0x10 + b) * 0x10 + c) * 0x10 + d
 }
 
-// The low surrogate of an escape at i, 0 if there is none.
-fn low_at(raw: &[u8], i: usize) -> u32
+// The low surrogate of an escape at i, if there is one.
+fn low_at(raw: &[u8], i: usize) -> Option<u32>
     requires { i ≤ length raw.now }
     ensures { LowAt raw.now i result }
 {
-    if raw.len() - i < 6 {
-        return 0;
+    if raw.len() - i < 6 || raw[i] != b'\\' || raw[i + 1] != b'u' {
+        return None;
     }
-    if raw[i] != 0x5C {
-        return 0;
-    }
-    if raw[i + 1] != 0x75 {
-        return 0;
-    }
-    let l = unit_at(raw, i + 2);
-    if l < 0xDC00 {
-        return 0;
-    }
-    if 0xDFFF < l {
-        return 0;
-    }
-    l
-}
-
-// A code point, in a string that continues at `next`.
-fn packed(u: u32, next: usize) -> Unescaped
-    ensures { (Packs u result.bytes result.size) × (result.next ≡ next) }
-{
-    let p = utf8::pack(u);
-    let bytes = p.bytes;
-    Unescaped {
-        bytes,
-        size: p.size,
-        next,
+    match unit_at(raw, i + 2) {
+        l @ 0xDC00..=0xDFFF => Some(l),
+        _ => None,
     }
 }
 
 // A \u escape at i, with all its digits.
 fn unescape_unit(raw: &[u8], i: usize) -> Unescaped
     requires { UnitThere raw.now i }
-    ensures { Proceeds raw.now i result.bytes result.size result.next }
+    ensures { Proceeds raw.now i result.text result.next }
 {
     let h = unit_at(raw, i + 2);
     let next = i + 6;
-    if h < 0xD800 {
-        return packed(h, next);
+    if (0xD800..=0xDBFF).contains(&h) {
+        if let Some(l) = low_at(raw, next) {
+            return Unescaped {
+                text: utf8::pack(utf8::joined(h, l)),
+                next: i + 12,
+            };
+        }
     }
-    if 0xDBFF < h {
-        return packed(h, next);
+    Unescaped {
+        text: utf8::pack(h),
+        next,
     }
-    let l = low_at(raw, next);
-    if l == 0 {
-        return packed(h, next);
-    }
-    packed(utf8::joined(h, l), i + 12)
 }
 
 // The escape whose backslash is at i. One that the end of the cell cuts short has no content.
 pub fn unescape_at(raw: &[u8], i: usize) -> Unescaped
     requires { (i < length raw.now) × (get_or raw.now i 0 ≡ BACKSLASH) }
-    ensures { Proceeds raw.now i result.bytes result.size result.next }
+    ensures { Proceeds raw.now i result.text result.next }
 {
     if raw.len() - i < 2 {
-        return Unescaped {
-            bytes: [0, 0, 0, 0],
-            size: 0,
-            next: raw.len(),
-        };
+        return Unescaped::end_of(raw);
     }
     let b = raw[i + 1];
-    if b != 0x75 {
-        return Unescaped {
-            bytes: [short_escape(b), 0, 0, 0],
-            size: 1,
-            next: i + 2,
-        };
+    if b != b'u' {
+        return Unescaped::byte(short_escape(b), i + 2);
     }
     if raw.len() - i < 6 {
-        return Unescaped {
-            bytes: [0, 0, 0, 0],
-            size: 0,
-            next: raw.len(),
-        };
+        return Unescaped::end_of(raw);
     }
     unescape_unit(raw, i)
 }

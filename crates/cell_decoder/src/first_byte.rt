@@ -1,9 +1,7 @@
 // The encoding of a cell's content, from its first byte. The definition is `spelling_by` of specs/FirstByte.antt.
 ghost use Rattle.std.specs.Prelude.{◌≡◌};
-ghost use Rattle.model.specs.rules.Base.{choose◌then◌else◌, ◌is◌};
 ghost use Rattle.cell_decoder.specs.FirstByte.{spelling_by};
 ghost use Rattle.model.specs.declared.Dialect.TheVariants.{Csvj};
-ghost use Rattle.cell_decoder.specs.declared.first_byte.Spelling.TheVariants.{Doubled};
 
 use model::Dialect;
 
@@ -23,29 +21,11 @@ pub enum Spelling {
 fn csvj_spelling(b: u8) -> Spelling
     ensures { result ≡ spelling_by Csvj b }
 {
-    if b == 0x22 {
-        return Spelling::Escaped;
+    match b {
+        b'"' => Spelling::Escaped,
+        b'-' | b'0'..=b'9' => Spelling::AsItStands,
+        _ => Spelling::Nothing,
     }
-    if b == 0x2D {
-        return Spelling::AsItStands;
-    }
-    if b < 0x30 {
-        return Spelling::Nothing;
-    }
-    if 0x39 < b {
-        return Spelling::Nothing;
-    }
-    Spelling::AsItStands
-}
-
-// Doubled after a quote, and otherwise as the dialect encodes it.
-fn doubled_or(q: u8, b: u8, other: Spelling) -> Spelling
-    ensures { result ≡ (choose b is q then Doubled q else other) }
-{
-    if b == q {
-        return Spelling::Doubled(q);
-    }
-    other
 }
 
 pub fn spelling_by(d: Dialect, b: u8) -> Spelling
@@ -54,7 +34,8 @@ pub fn spelling_by(d: Dialect, b: u8) -> Spelling
     let q = cell_lexer::quote_of(d);
     match d {
         Dialect::Csvj => csvj_spelling(b),
-        Dialect::Tdif => doubled_or(q, b, Spelling::Nothing),
-        Dialect::CsvPlus(_) => doubled_or(q, b, Spelling::AsItStands),
+        _ if b == q => Spelling::Doubled(q),
+        Dialect::Tdif => Spelling::Nothing,
+        Dialect::CsvPlus(_) => Spelling::AsItStands,
     }
 }

@@ -71,10 +71,9 @@ pub fn decode_cell(d: Dialect, raw: &[u8], room: &mut [u8]) -> Result<Decoded, R
     ensures result_value { given_answer result ≡ decoder_answer (any_cell d raw.now (length room.old)) }
     ensures room_after { room.new ≡ over (any_cell d raw.now (length room.old)).content room.old }
 {
-    match validate::validate_cell(d, raw) {
-        Ok(()) => decode_sound(d, raw, room),
-        Err(CellFault { fault, offset }) => Err(codes::record_report(fault, 0, offset)),
-    }
+    validate::validate_cell(d, raw)
+        .map_err(|CellFault { fault, offset }| codes::record_report(fault, 0, offset))?;
+    decode_sound(d, raw, room)
 }
 
 // The decoder (§11.1): 11 for a number that is no dialect's. It ends on every input, and its answer and its room are determined for all
@@ -83,8 +82,8 @@ pub fn decode(dialect: u32, raw: &[u8], room: &mut [u8]) -> Result<Decoded, Repo
     ensures answer { given_answer result ≡ decoder_answer (decoder dialect raw.now (length room.old)) }
     ensures leaves { room.new ≡ decoder_leaves dialect raw.now room.old }
 {
-    match Dialect::try_from(dialect) {
-        Ok(d) => decode_cell(d, raw, room),
-        Err(_) => Err(codes::call_report(codes::WRONG_CALL)),
-    }
+    let Ok(d) = Dialect::try_from(dialect) else {
+        return Err(codes::call_report(codes::WRONG_CALL));
+    };
+    decode_cell(d, raw, room)
 }

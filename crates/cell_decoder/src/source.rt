@@ -10,6 +10,7 @@ use crate::first_byte::Spelling;
 use codes::cell;
 use model::{Dialect, Kind};
 
+// No `Option<Dialect>`: its `None` would not say that the bytes are the content.
 #[derive(Clone, Copy)]
 pub enum Source {
     File(Dialect),
@@ -20,22 +21,13 @@ pub enum Source {
 pub fn kind_of_number(number: u8) -> Kind
     ensures { result ≡ kind_from number }
 {
-    match Kind::try_from(number) {
-        Ok(k) => k,
-        Err(_) => Kind::Null,
-    }
+    Kind::try_from(number).unwrap_or(Kind::Null)
 }
 
 pub fn is_text(k: Kind) -> bool
     ensures { result ≡ is_text k }
 {
-    match k {
-        Kind::Text => true,
-        Kind::Number => false,
-        Kind::True => false,
-        Kind::False => false,
-        Kind::Null => false,
-    }
+    matches!(k, Kind::Text)
 }
 
 // The encoding of a cell's content.

@@ -20,14 +20,10 @@ pub fn validate_cell(d: Dialect, raw: &[u8]) -> Result<(), CellFault>
             fault: Fault::Byte(e),
             offset: at,
         }),
-        CellEnd::Open(c) => {
-            if cell::is_whole(d, c) {
-                return Ok(());
-            }
-            Err(CellFault {
-                fault: Fault::CutShort,
-                offset: raw.len(),
-            })
-        }
+        CellEnd::Open(c) if cell::is_whole(d, c) => Ok(()),
+        CellEnd::Open(_) => Err(CellFault {
+            fault: Fault::CutShort,
+            offset: raw.len(),
+        }),
     }
 }

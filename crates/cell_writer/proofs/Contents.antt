@@ -1,4 +1,5 @@
 -- The content of a cell by offset: a run, the unit there, and the end.
+use Rattle.std.proofs.Common.{◌⊎◌, inl, inr}
 use mathlib.Core.Path.{◌≡◌, refl, sym, ap, ◌∙◌}
 use mathlib.Core.Bool.{false, and-false}
 use mathlib.Core.List.{[], ◌∷◌, ◌++◌}
@@ -33,9 +34,6 @@ content_end AsItStands raw i h = drop_of_length-le raw h
 content_end (Doubled q) raw i h = undoubled.at_end q false raw i h
 content_end Escaped raw i h = string_end raw i h
 
-pub nothing_end : (raw : Bytes) → content_from Nothing raw (length raw) ≡ []
-nothing_end raw = content_end Nothing raw (length raw) (omega arith)
-
 -- it also ends at the quote that closes the cell
 pub closed_doubled : (q : ℕ) (raw : Bytes) (i : ℕ) → i < length raw → get_or raw i 0 ≡ q → length raw ≤ i + 1 → content_from (Doubled q) raw i ≡ []
 closed_doubled q raw i h e k = undoubled.at_last q raw i h e k
@@ -58,73 +56,75 @@ module _ (raw : Bytes) (i j p q r : ℕ) (k : j ≡ i + plain_run p q r (drop i 
 
 -- ---- units
 
-part_byte : (c : Spelling) (raw : Bytes) (i b next : ℕ) (more : Bytes) → content_from c raw i ≡ b ∷ content_from c raw next → i < next
+part_byte : (c : Spelling) (raw : Bytes) (i b next : ℕ) → content_from c raw i ≡ b ∷ content_from c raw next → i < next
     → next ≤ length raw → get_or raw (next - 1) 0 ≡ b
-    → Part c raw i (b ∷ more) 1 next
-part_byte c raw i b next more e h k f =
-    record { stands = e; on = h; inside = k; few = omega arith; sized = refl; unit = λ _. one b; single = λ _ g. f ∙ g }
+    → Part c raw i (b ∷ []) next
+part_byte c raw i b next e h k f =
+    record { stands = e; on = h; inside = k; unit = λ _. one b; single = λ g. f ∙ ap (λ (l : Bytes). get_or l 0 0) g }
 
-part_end : (c : Spelling) (raw : Bytes) (i : ℕ) (bytes : Bytes) → i < length raw → content_from c raw i ≡ [] → Part c raw i bytes 0 (length raw)
-part_end c raw i bytes h e =
+part_end : (c : Spelling) (raw : Bytes) (i : ℕ) → i < length raw → content_from c raw i ≡ [] → Part c raw i [] (length raw)
+part_end c raw i h e =
     record {
       stands = e ∙ sym (content_end c raw (length raw) (omega arith));
       on = h;
       inside = omega arith;
-      few = omega arith;
-      sized = refl;
       unit = λ z. absurd (omega arith);
-      single = λ z f. absurd (omega arith);
+      single = λ f. let z : ◌≡◌ {A = ℕ} 0 1 = ap length f in absurd (omega arith);
     }
 
-module _ (raw : Bytes) (i : ℕ) (h : i < length raw) (more : Bytes) where
+-- the same part by equations
+pub part_as : {c : Spelling} {raw : Bytes} {i : ℕ} {text text' : Bytes} {next next' : ℕ} → (text' ≡ text) × (next' ≡ next) → Part c raw i text next
+    → Part c raw i text' next'
+part_as e p = rw (e.0, e.1) p
+
+module _ (raw : Bytes) (i : ℕ) (h : i < length raw) where
   at_before : get_or raw (i + 1 - 1) 0 ≡ get_or raw i 0
   at_before = let e : i + 1 - 1 ≡ i = omega arith in rw e
 
-  pub itself_part : Part AsItStands raw i (get_or raw i 0 ∷ more) 1 (i + 1)
-  itself_part = part_byte AsItStands raw i (get_or raw i 0) (i + 1) more (drop_next raw i (i + 1) h refl) (omega arith) (omega arith) at_before
+  itself_part : Part AsItStands raw i (get_or raw i 0 ∷ []) (i + 1)
+  itself_part = part_byte AsItStands raw i (get_or raw i 0) (i + 1) (drop_next raw i (i + 1) h refl) (omega arith) (omega arith) at_before
 
-  pub other_part : (q : ℕ) → (get_or raw i 0 ≡ q → ⊥) → Part (Doubled q) raw i (get_or raw i 0 ∷ more) 1 (i + 1)
-  other_part q e = part_byte (Doubled q) raw i (get_or raw i 0) (i + 1) more (undoubled.at_other q raw i h e) (omega arith) (omega arith) at_before
+  pub verbatim_part : {c : Spelling} → (c ≡ Nothing) ⊎ (c ≡ AsItStands) → Part c raw i (get_or raw i 0 ∷ []) (i + 1)
+  verbatim_part (inl e) =
+      let p = itself_part in
+      rw e (record { stands = p.stands; on = p.on; inside = p.inside; unit = p.unit; single = p.single })
+  verbatim_part (inr e) = rw e itself_part
+
+  pub other_part : (q : ℕ) → (get_or raw i 0 ≡ q → ⊥) → Part (Doubled q) raw i (get_or raw i 0 ∷ []) (i + 1)
+  other_part q e = part_byte (Doubled q) raw i (get_or raw i 0) (i + 1) (undoubled.at_other q raw i h e) (omega arith) (omega arith) at_before
 
   -- a quote, and a second one
-  pub double_part : (q : ℕ) → get_or raw i 0 ≡ q → i + 1 < length raw → get_or raw (i + 1) 0 ≡ q → Part (Doubled q) raw i (get_or raw i 0 ∷ more) 1 (i + 2)
+  pub double_part : (q : ℕ) → get_or raw i 0 ≡ q → i + 1 < length raw → get_or raw (i + 1) 0 ≡ q → Part (Doubled q) raw i (get_or raw i 0 ∷ []) (i + 2)
   double_part q e k f =
       let two : i + 1 + 1 ≡ i + 2 = omega arith in
       let back : i + 2 - 1 ≡ i + 1 = omega arith in
-      part_byte (Doubled q) raw i (get_or raw i 0) (i + 2) more
+      part_byte (Doubled q) raw i (get_or raw i 0) (i + 2)
       (undoubled.at_double q raw i h e k f ∙ ap (λ (n : ℕ). get_or raw i 0 ∷ undouble q false (drop n raw)) two)
       (omega arith) (omega arith) (ap (λ (n : ℕ). get_or raw n 0) back ∙ f ∙ sym e)
 
-  pub close_part : (q : ℕ) (bytes : Bytes) → get_or raw i 0 ≡ q → i + 1 < length raw → (get_or raw (i + 1) 0 ≡ q → ⊥) → Part (Doubled q) raw i bytes 0 (length raw)
-  close_part q bytes e k f = part_end (Doubled q) raw i bytes h (undoubled.at_close q raw i h e k f)
+  pub close_part : (q : ℕ) → get_or raw i 0 ≡ q → i + 1 < length raw → (get_or raw (i + 1) 0 ≡ q → ⊥) → Part (Doubled q) raw i [] (length raw)
+  close_part q e k f = part_end (Doubled q) raw i h (undoubled.at_close q raw i h e k f)
 
-  pub last_part : (q : ℕ) (bytes : Bytes) → get_or raw i 0 ≡ q → length raw ≤ i + 1 → Part (Doubled q) raw i bytes 0 (length raw)
-  last_part q bytes e k = part_end (Doubled q) raw i bytes h (closed_doubled q raw i h e k)
+  pub last_part : (q : ℕ) → get_or raw i 0 ≡ q → length raw ≤ i + 1 → Part (Doubled q) raw i [] (length raw)
+  last_part q e k = part_end (Doubled q) raw i h (closed_doubled q raw i h e k)
 
-  pub quote_part : (bytes : Bytes) → get_or raw i 0 ≡ QUOTE → Part Escaped raw i bytes 0 (length raw)
-  quote_part bytes e = part_end Escaped raw i bytes h (closed_string raw i h e)
+  pub quote_part : get_or raw i 0 ≡ QUOTE → Part Escaped raw i [] (length raw)
+  quote_part e = part_end Escaped raw i h (closed_string raw i h e)
 
-  pub char_part : (get_or raw i 0 ≡ QUOTE → ⊥) → (get_or raw i 0 ≡ BACKSLASH → ⊥) → Part Escaped raw i (get_or raw i 0 ∷ more) 1 (i + 1)
-  char_part q b = part_byte Escaped raw i (get_or raw i 0) (i + 1) more (string_byte raw i h q b) (omega arith) (omega arith) at_before
+  pub char_part : (get_or raw i 0 ≡ QUOTE → ⊥) → (get_or raw i 0 ≡ BACKSLASH → ⊥) → Part Escaped raw i (get_or raw i 0 ∷ []) (i + 1)
+  char_part q b = part_byte Escaped raw i (get_or raw i 0) (i + 1) (string_byte raw i h q b) (omega arith) (omega arith) at_before
 
-pub escape_part : {raw : Bytes} {i : ℕ} {bytes : Bytes} {size next : ℕ} → Proceeds raw i bytes size next → Part Escaped raw i bytes size next
-escape_part g =
-    record { stands = g.stands; on = omega (arith, g.on); inside = g.inside; few = g.few; sized = g.sized; unit = g.unit; single = g.single }
-
-pub nothing_part : {raw : Bytes} {i : ℕ} {bytes : Bytes} {size next : ℕ} → Part AsItStands raw i bytes size next → Part Nothing raw i bytes size next
-nothing_part p = record { stands = p.stands; on = p.on; inside = p.inside; few = p.few; sized = p.sized; unit = p.unit; single = p.single }
+pub escape_part : {raw : Bytes} {i : ℕ} {text : Bytes} {next : ℕ} → Proceeds raw i text next → Part Escaped raw i text next
+escape_part g = record { stands = g.stands; on = omega (arith, g.on); inside = g.inside; unit = g.unit; single = g.single }
 
 -- ---- a single byte begins no lone surrogate in a cell that is decoded
 
-pub legible_doubled : {c : Spelling} {raw : Bytes} {q : ℕ} → Legible c raw → c ≡ Doubled q → Decoded c raw
-legible_doubled has_none e = let z : ◌≡◌ {A = ℕ} 0 1 = cc in absurd (omega arith)
-legible_doubled as_it_lies e = let z : ◌≡◌ {A = ℕ} 0 1 = cc in absurd (omega arith)
-legible_doubled (decoded d) e = d
-
-pub legible_string : {c : Spelling} {raw : Bytes} → Legible c raw → c ≡ Escaped → Decoded c raw
-legible_string has_none e = let z : ◌≡◌ {A = ℕ} 0 1 = cc in absurd (omega arith)
-legible_string as_it_lies e = let z : ◌≡◌ {A = ℕ} 0 1 = cc in absurd (omega arith)
-legible_string (decoded d) e = d
+pub legible_decoded : {c : Spelling} {raw : Bytes} → Legible c raw → ((q : ℕ) × (c ≡ Doubled q)) ⊎ (c ≡ Escaped) → Decoded c raw
+legible_decoded has_none (inl e) = let z : ◌≡◌ {A = ℕ} 0 1 = cc e.1 in absurd (omega arith)
+legible_decoded has_none (inr e) = let z : ◌≡◌ {A = ℕ} 0 1 = cc in absurd (omega arith)
+legible_decoded as_it_lies (inl e) = let z : ◌≡◌ {A = ℕ} 0 1 = cc e.1 in absurd (omega arith)
+legible_decoded as_it_lies (inr e) = let z : ◌≡◌ {A = ℕ} 0 1 = cc in absurd (omega arith)
+legible_decoded (decoded d) e = d
 
 pub decoded_short : {c : Spelling} {raw : Bytes} → Decoded c raw → length (content_in c raw) ≤ MAXRECORD
 decoded_short (by_doubled h l e) = l
@@ -147,9 +147,10 @@ paired_none : (a : ℕ) (bs : Bytes) → (a ≡ 0xED → ⊥) → paired (a ∷ 
 paired_none a [] h = refl
 paired_none a (b ∷ bs) h = no_surrogate a b h
 
-first_one : (l : Bytes) (n : ℕ) → n ≡ 1 → length (take n l) ≡ n → take n l ≡ get_or l 0 0 ∷ []
-first_one [] n e h = let z : ◌≡◌ {A = ℕ} 0 1 = rw e at h in absurd (omega arith)
-first_one (a ∷ l) n e h = rw e
+one_byte : (u : Bytes) → length u ≡ 1 → u ≡ get_or u 0 0 ∷ []
+one_byte [] e = absurd (omega arith)
+one_byte (a ∷ []) e = refl
+one_byte (a ∷ b ∷ u) e = absurd (omega arith)
 
 -- after ED comes a byte with which it begins no lone surrogate, or nothing
 ed_apart : {c : Spelling} {raw : Bytes} (i : ℕ) → Decoded c raw → get_or raw i 0 ≡ 0xED → paired (0xED ∷ content_from c raw (i + 1)) ≡ false
@@ -162,15 +163,16 @@ ed_apart {c} {raw} i d e =
     ∙ paired_low 0xED (get_or raw (i + 1) 0) (content_from c raw (i + 1 + 1)) w.most) λ f.
     ap (λ (bs : Bytes). paired (0xED ∷ bs)) (content_end c raw (i + 1) (ltb-false (i + 1) (length raw) f))
 
-pub part_apart : {c : Spelling} {raw : Bytes} {i : ℕ} {bytes : Bytes} {size next : ℕ} → Decoded c raw → Part c raw i bytes size next
-    → size ≡ 1 → paired (content_from c raw i) ≡ false
-part_apart {c} {raw} {i} {bytes} {size} {next} d p e =
-    let b : ℕ = get_or bytes 0 0 in
+pub part_apart : {c : Spelling} {raw : Bytes} {i : ℕ} {text : Bytes} {next : ℕ} → Decoded c raw → Part c raw i text next
+    → length text ≡ 1 → paired (content_from c raw i) ≡ false
+part_apart {c} {raw} {i} {text} {next} d p e =
+    let b : ℕ = get_or text 0 0 in
     let whole : content_from c raw i ≡ b ∷ content_from c raw next =
-    p.stands ∙ ap (λ (l : Bytes). l ++ content_from c raw next) (first_one bytes size e p.sized) in
+    p.stands ∙ ap (λ (l : Bytes). l ++ content_from c raw next) (one_byte text e) in
     split_on (b is 0xED)
     (λ f.
     let back : next - 1 + 1 ≡ next = omega (arith, p.on) in
-    let apart : paired (0xED ∷ content_from c raw next) ≡ false = rw back at (ed_apart (next - 1) d (p.single e (is→eq b 0xED f))) in
+    let ed : text ≡ 0xED ∷ [] = one_byte text e ∙ ap (λ (n : ℕ). n ∷ []) (is→eq b 0xED f) in
+    let apart : paired (0xED ∷ content_from c raw next) ≡ false = rw back at (ed_apart (next - 1) d (p.single ed)) in
     ap paired whole ∙ rw (is→eq b 0xED f) apart) λ f.
     ap paired whole ∙ paired_none b (content_from c raw next) λ z. impossible (sym f ∙ eq-eqb b 0xED z)

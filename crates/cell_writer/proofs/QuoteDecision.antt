@@ -4,23 +4,21 @@ use mathlib.Core.Bool.{Bool, true, false, ◌&&◌, ◌||◌, and-false, or-fals
 use mathlib.Core.List.{[], ◌∷◌, ◌++◌}
 use Prim.Native.Nat.{ℕ, ◌+◌, ◌≤◌, ◌<◌}
 use native.Mathlib.Omega.{arith}
-use lib.Dec.{leb}
-use lib.ListN.{length, take, drop, get_or, length-take, length-append}
+use lib.ListN.{length, take, drop, get_or, length-append}
 use lib.Seq.{take_at}
-use borrow.Author.Tests.{eq-eqb, ne_eqb, leb-true, leb-false}
+use borrow.Author.Tests.{ne_eqb, leb-true}
 use Rattle.model.specs.declared.Settings.{Settings}
 use Rattle.model.specs.declared.Dialect.TheVariants.{CsvPlus}
-use Rattle.model.specs.rules.Base.{Bytes, choose◌then◌else◌, ◌is◌, CR, LF, holds, is_empty, over}
+use Rattle.model.specs.rules.Base.{Bytes, choose◌then◌else◌, CR, LF, holds, is_empty, over}
 use Rattle.model.specs.rules.Dialect.{quote_of, delimiter_of}
 use Rattle.model.specs.rules.Text.{special, begins_bom, quoted_text, csv_plus_cell, has_quotes}
-use Rattle.model.proofs.Tests.{split_on, impossible, is→eq}
+use Rattle.model.proofs.Tests.{split_on}
 use Rattle.model.proofs.cell_laws.Utf8.{quote_ascii, delimiter_ascii}
 use Rattle.cell_decoder.specs.Units.{Unit, one, two, three, four}
 use Rattle.cell_decoder.specs.declared.first_byte.Spelling.{Spelling}
 use Rattle.cell_writer.specs.PlainRuns.{is_plain, plain_run}
 use Rattle.cell_writer.specs.Contents.{content_from, source_quote, Part}
 use Rattle.cell_writer.proofs.PlainRuns.{Plain, plain_is}
-use Rattle.cell_writer.proofs.Units.{first_one}
 use Rattle.cell_writer.proofs.Contents.{content_part, content_end}
 
 holds_append : (p : ℕ → Bool) (u v : Bytes) → holds p (u ++ v) ≡ (holds p u || holds p v)
@@ -76,67 +74,28 @@ module _ (s : Settings) where
   more_special (three a b c k l m) h = rw (high_special a k, high_special b l.least, high_special c m.least)
   more_special (four a b c d k l m n) h = rw (high_special a k.least, high_special b l.least, high_special c m.least, high_special d n.least)
 
-  module _ (bytes : Bytes) (size : ℕ) (long : length bytes ≡ 4) (few : size ≤ 4) where
-    pub unit_byte : size ≡ 1 → holds (special s) (take size bytes) ≡ special s (get_or bytes 0 0)
-    unfolding holds
-    unit_byte e = rw (first_one bytes size e (omega arith)) (or-false (special s (get_or bytes 0 0)))
+  pub unit_byte : (u : Bytes) → length u ≡ 1 → holds (special s) u ≡ special s (get_or u 0 0)
+  unfolding holds
+  unit_byte [] e = absurd (omega arith)
+  unit_byte (b ∷ []) e = or-false (special s b)
+  unit_byte (b ∷ c ∷ u) e = absurd (omega arith)
 
-    pub unit_more : (0 < size → Unit (take size bytes)) → (size ≡ 1 → ⊥) → holds (special s) (take size bytes) ≡ false
-    unfolding holds
-    unit_more u h =
-        split_on (size is 0) (λ e. rw (is→eq size 0 e)) λ e.
-        more_special (u (zero_less e)) λ l. h (omega (arith, l, length-take size bytes))
-      where
-        zero_less : (size is 0) ≡ false → 0 < size
-        zero_less e = split_on (leb 1 size) (λ f. leb-true 1 size f) λ f. impossible (sym e ∙ eq-eqb size 0 (omega (arith, leb-false 1 size f)))
+  pub unit_more : (u : Bytes) → (0 < length u → Unit u) → (length u ≡ 1 → ⊥) → holds (special s) u ≡ false
+  unfolding holds
+  unit_more [] h n = refl
+  unit_more (b ∷ u) h n = more_special (h (omega arith)) n
 
-  module _ {c : Spelling} {raw : Bytes} {i : ℕ} {bytes : Bytes} {size next : ℕ} (p : Part c raw i bytes size next) where
-    part_special : holds (special s) (content_from c raw i) ≡ (holds (special s) (take size bytes) || holds (special s) (content_from c raw next))
-    part_special = ap (holds (special s)) p.stands ∙ holds_append (special s) (take size bytes) (content_from c raw next)
+  module _ {c : Spelling} {raw : Bytes} {i : ℕ} {text : Bytes} {next : ℕ} (p : Part c raw i text next) where
+    part_special : holds (special s) (content_from c raw i) ≡ (holds (special s) text || holds (special s) (content_from c raw next))
+    part_special = ap (holds (special s)) p.stands ∙ holds_append (special s) text (content_from c raw next)
 
-    pub special_there : holds (special s) (take size bytes) ≡ true → holds (special s) (content_from c raw i) ≡ true
+    pub special_there : holds (special s) text ≡ true → holds (special s) (content_from c raw i) ≡ true
     special_there e = part_special ∙ rw e
 
-    pub special_next : holds (special s) (take size bytes) ≡ false → holds (special s) (content_from c raw i) ≡ holds (special s) (content_from c raw next)
+    pub special_next : holds (special s) text ≡ false → holds (special s) (content_from c raw i) ≡ holds (special s) (content_from c raw next)
     special_next e = part_special ∙ rw e
 
-  -- the tests of one byte
-  module _ (b : ℕ) where
-    pub by_quote : b ≡ Q → special s b ≡ true
-    by_quote e = rw (eq-eqb b Q e)
-
-    pub by_delimiter : (b ≡ Q → ⊥) → b ≡ P → special s b ≡ true
-    by_delimiter h e = rw (ne_eqb b Q h, eq-eqb b P e)
-
-    pub by_cr : (b ≡ Q → ⊥) → (b ≡ P → ⊥) → b ≡ CR → special s b ≡ true
-    by_cr h k e = rw (ne_eqb b Q h, ne_eqb b P k, eq-eqb b CR e)
-
-    pub by_lf : (b ≡ Q → ⊥) → (b ≡ P → ⊥) → (b ≡ CR → ⊥) → special s b ≡ (b is LF)
-    by_lf h k l = rw (ne_eqb b Q h, ne_eqb b P k, ne_eqb b CR l)
-
 -- ---- the byte order mark
-
-pub bom_short : (c : Bytes) → length c < 3 → begins_bom c ≡ false
-bom_short [] h = refl
-bom_short (a ∷ []) h = refl
-bom_short (a ∷ b ∷ []) h = refl
-bom_short (a ∷ b ∷ d ∷ c) h = absurd (omega arith)
-
-bom_by : (c : Bytes) → 3 ≤ length c → begins_bom c ≡ (get_or c 0 0 is 0xEF && get_or c 1 0 is 0xBB && get_or c 2 0 is 0xBF)
-bom_by [] h = absurd (omega arith)
-bom_by (a ∷ []) h = absurd (omega arith)
-bom_by (a ∷ b ∷ []) h = absurd (omega arith)
-bom_by (a ∷ b ∷ d ∷ c) h = refl
-
-module _ (c : Bytes) (h : 3 ≤ length c) where
-  pub mark_first : (get_or c 0 0 ≡ 0xEF → ⊥) → begins_bom c ≡ false
-  mark_first e = bom_by c h ∙ rw (ne_eqb (get_or c 0 0) 0xEF e)
-
-  pub mark_second : get_or c 0 0 ≡ 0xEF → (get_or c 1 0 ≡ 0xBB → ⊥) → begins_bom c ≡ false
-  mark_second e f = bom_by c h ∙ rw (eq-eqb (get_or c 0 0) 0xEF e, ne_eqb (get_or c 1 0) 0xBB f)
-
-  pub mark_third : get_or c 0 0 ≡ 0xEF → get_or c 1 0 ≡ 0xBB → begins_bom c ≡ (get_or c 2 0 is 0xBF)
-  mark_third e f = bom_by c h ∙ rw (eq-eqb (get_or c 0 0) 0xEF e, eq-eqb (get_or c 1 0) 0xBB f)
 
 -- the first n bytes of a room are exactly w
 pub record Held (w room : Bytes) (n : ℕ) : Type 0 where

@@ -2,113 +2,32 @@
 use mathlib.Core.Path.{◌≡◌, refl, sym, ap, ◌∙◌}
 use mathlib.Core.Bool.{true, false, ◌||◌}
 use mathlib.Core.List.{[], ◌∷◌, ◌++◌, append-nil, append_assoc}
-use Prim.Native.Nat.{ℕ, ◌/◌, ◌%◌, ◌≤◌, ◌<◌}
+use Prim.Native.Nat.{ℕ, ◌≤◌}
 use native.Mathlib.Omega.{arith}
-use lib.Dec.{leb}
-use lib.ListN.{length, take, get_or, length-take}
-use lib.Seq.{take-append-le}
-use borrow.Author.Tests.{eq-eqb, ne_eqb, le-leb, lt-leb}
+use lib.ListN.{length, get_or}
+use borrow.Author.Tests.{ne_eqb, le-leb}
 use Rattle.model.specs.declared.Dialect.{Dialect}
 use Rattle.model.specs.declared.Dialect.TheVariants.{Csvj, Tdif, CsvPlus}
 use Rattle.model.specs.rules.Dialect.{quote_of, is_csvj}
 use Rattle.model.specs.rules.Base.{Bytes, choose◌then◌else◌, ◌is◌, QUOTE, BACKSLASH}
 use Rattle.model.specs.rules.Utf8.{is_surrogate, holds_lone}
-use Rattle.model.specs.rules.Text.{hex_digit, escaped, surrogate, json_body, doubled}
+use Rattle.model.specs.rules.Text.{escaped, surrogate, json_body, doubled}
 use Rattle.model.proofs.Tests.{split_on, impossible}
 use Rattle.model.proofs.cell_laws.Utf8.{quote_ascii}
 use Rattle.cell_decoder.specs.Units.{Unit, one, two, three, four, Lead, Later}
-use Rattle.cell_writer.specs.Units.{Spells, body_text, is_lone, begins_lone, paired}
-
--- the same text by an equation
-pub spells_as : {w v bytes : Bytes} {size : ℕ} → w ≡ v → Spells v bytes size → Spells w bytes size
-spells_as e p = rw e p
+use Rattle.cell_writer.specs.Units.{body_text, is_lone, begins_lone, paired}
 
 -- ---- a byte of a string
 
 module _ (b : ℕ) where
-  pub escaped_quote : b ≡ QUOTE → escaped b ≡ BACKSLASH ∷ b ∷ []
-  unfolding choose◌then◌else◌
-  escaped_quote e = rw e
-
-  pub escaped_backslash : b ≡ BACKSLASH → escaped b ≡ BACKSLASH ∷ b ∷ []
-  unfolding choose◌then◌else◌
-  escaped_backslash e = rw e
-
   pub escaped_itself : (b ≡ QUOTE → ⊥) → (b ≡ BACKSLASH → ⊥) → 0x20 ≤ b → escaped b ≡ b ∷ []
   unfolding choose◌then◌else◌
   escaped_itself q s h = rw (ne_eqb b QUOTE q, ne_eqb b BACKSLASH s, le-leb 0x20 b h)
-
-  pub escaped_code : b < 0x20 → (b ≡ 0x08 → ⊥) → (b ≡ 0x09 → ⊥) → (b ≡ 0x0A → ⊥) → (b ≡ 0x0C → ⊥) → (b ≡ 0x0D → ⊥)
-      → escaped b ≡ BACKSLASH ∷ 0x75 ∷ 0x30 ∷ 0x30 ∷ hex_digit (b / 0x10) ∷ hex_digit (b % 0x10) ∷ []
-  unfolding choose◌then◌else◌
-  escaped_code h k l m n o =
-      rw (
-        ne_eqb b QUOTE (λ e. omega arith),
-        ne_eqb b BACKSLASH (λ e. omega arith),
-        lt-leb 0x20 b h,
-        ne_eqb b 0x08 k,
-        ne_eqb b 0x09 l,
-        ne_eqb b 0x0A m,
-        ne_eqb b 0x0C n,
-        ne_eqb b 0x0D o,
-      )
-
--- ---- a byte of text with doubled quotes
-
-module _ (q b : ℕ) where
-  pub doubled_quote : b ≡ q → doubled q (b ∷ []) ≡ b ∷ b ∷ []
-  unfolding doubled choose◌then◌else◌
-  doubled_quote e = rw (eq-eqb b q e, e)
-
-  pub doubled_itself : (b ≡ q → ⊥) → doubled q (b ∷ []) ≡ b ∷ []
-  unfolding doubled choose◌then◌else◌
-  doubled_itself e = rw (ne_eqb b q e)
-
--- ---- digits
-
-pub code_spells : {x y x' y' : ℕ} → x ≡ x' → y ≡ y'
-    → Spells (BACKSLASH ∷ 0x75 ∷ 0x30 ∷ 0x30 ∷ x' ∷ y' ∷ []) (BACKSLASH ∷ 0x75 ∷ 0x30 ∷ 0x30 ∷ x ∷ y ∷ []) 6
-code_spells e f = record { spells = cc; sized = refl }
-
-pub lone_spells : {x y z x' y' z' : ℕ} → x ≡ x' → y ≡ y' → z ≡ z'
-    → Spells (BACKSLASH ∷ 0x75 ∷ 0x64 ∷ x' ∷ y' ∷ z' ∷ []) (BACKSLASH ∷ 0x75 ∷ 0x64 ∷ x ∷ y ∷ z ∷ []) 6
-lone_spells e f g = record { spells = cc; sized = refl }
 
 -- ---- a lone surrogate
 
 pub no_surrogate : (a b : ℕ) → (a ≡ 0xED → ⊥) → is_surrogate a b ≡ false
 no_surrogate a b e = rw (ne_eqb a 0xED e)
-
-pub surrogate_by : (a b : ℕ) → a ≡ 0xED → is_surrogate a b ≡ leb 0xA0 b
-surrogate_by a b e = rw (eq-eqb a 0xED e)
-
--- the first bytes of a list that has them
-pub first_one : (l : Bytes) (n : ℕ) → n ≡ 1 → 1 ≤ length l → take n l ≡ get_or l 0 0 ∷ []
-first_one [] n e h = absurd (omega arith)
-first_one (a ∷ l) n e h = rw e
-
-first_three : (l : Bytes) → 3 ≤ length l → take 3 l ≡ get_or l 0 0 ∷ get_or l 1 0 ∷ get_or l 2 0 ∷ []
-first_three [] h = absurd (omega arith)
-first_three (a ∷ []) h = absurd (omega arith)
-first_three (a ∷ b ∷ []) h = absurd (omega arith)
-first_three (a ∷ b ∷ c ∷ l) h = refl
-
-not_three : (u : Bytes) → (length u ≡ 3 → ⊥) → is_lone u ≡ false
-not_three [] h = refl
-not_three (a ∷ []) h = refl
-not_three (a ∷ b ∷ []) h = refl
-not_three (a ∷ b ∷ c ∷ []) h = absurd (h refl)
-not_three (a ∷ b ∷ c ∷ d ∷ u) h = refl
-
-three_long : (u : Bytes) → is_lone u ≡ true → length u ≡ 3
-three_long [] e = impossible e
-three_long (a ∷ []) e = impossible e
-three_long (a ∷ b ∷ []) e = impossible e
-three_long (a ∷ b ∷ c ∷ []) e = refl
-three_long (a ∷ b ∷ c ∷ d ∷ u) e = impossible e
-
-last_two : {a b c : ℕ} → Unit (a ∷ b ∷ c ∷ []) → (0x80 ≤ b) × (0x80 ≤ c)
-last_two (three a b c h k m) = (k.least, m.least)
 
 three_lone : (a b c : ℕ) → is_surrogate a b ≡ true → json_body (a ∷ b ∷ c ∷ []) ≡ surrogate b c
 unfolding json_body choose◌then◌else◌
@@ -119,37 +38,12 @@ in_csvj Csvj u e = refl
 in_csvj Tdif u e = impossible e
 in_csvj (CsvPlus s) u e = impossible e
 
-module _ (l : Bytes) (n : ℕ) (h : n ≤ length l) where
-  -- a unit of another length is none
-  pub lone_not : (n ≡ 3 → ⊥) → is_lone (take n l) ≡ false
-  lone_not e = not_three (take n l) λ z. e (omega (arith, length-take n l, z))
-
-  -- a unit of three bytes is one by its first two
-  lone_by : n ≡ 3 → is_lone (take n l) ≡ is_surrogate (get_or l 0 0) (get_or l 1 0)
-  lone_by e = let k : 3 ≤ length l = omega arith in rw (e, first_three l k)
-
-  pub lone_none : n ≡ 3 → (get_or l 0 0 ≡ 0xED → ⊥) → is_lone (take n l) ≡ false
-  lone_none e f = lone_by e ∙ no_surrogate (get_or l 0 0) (get_or l 1 0) f
-
-  pub lone_leb : n ≡ 3 → get_or l 0 0 ≡ 0xED → is_lone (take n l) ≡ leb 0xA0 (get_or l 1 0)
-  lone_leb e f = lone_by e ∙ surrogate_by (get_or l 0 0) (get_or l 1 0) f
-
-  lone_three : is_lone (take n l) ≡ true → n ≡ 3
-  lone_three e = let k : length (take n l) ≡ 3 = three_long (take n l) e in omega (arith, length-take n l)
-
-  -- its last two bytes are in the definition's range
-  pub lone_high : Unit (take n l) → is_lone (take n l) ≡ true → (0x80 ≤ get_or l 1 0) × (0x80 ≤ get_or l 2 0)
-  lone_high u e =
-      let z : n ≡ 3 = lone_three e in
-      let k : 3 ≤ length l = omega arith in
-      last_two (rw (z, first_three l k) at u)
-
-  pub lone_text : (t : Dialect) → is_csvj t ≡ true → is_lone (take n l) ≡ true → body_text t (take n l) ≡ surrogate (get_or l 1 0) (get_or l 2 0)
-  lone_text t j e =
-      let z : n ≡ 3 = lone_three e in
-      let k : 3 ≤ length l = omega arith in
-      let f : is_surrogate (get_or l 0 0) (get_or l 1 0) ≡ true = sym (lone_by z) ∙ e in
-      rw (z, first_three l k) (in_csvj t _ j ∙ three_lone (get_or l 0 0) (get_or l 1 0) (get_or l 2 0) f)
+pub lone_text : (t : Dialect) (u : Bytes) → is_csvj t ≡ true → is_lone u ≡ true → body_text t u ≡ surrogate (get_or u 1 0) (get_or u 2 0)
+lone_text t [] j e = impossible e
+lone_text t (a ∷ []) j e = impossible e
+lone_text t (a ∷ b ∷ []) j e = impossible e
+lone_text t (a ∷ b ∷ c ∷ []) j e = in_csvj t _ j ∙ three_lone a b c e
+lone_text t (a ∷ b ∷ c ∷ d ∷ u) j e = impossible e
 
 -- ---- any other unit of more than one byte is verbatim
 
@@ -189,15 +83,6 @@ pub stands : (t : Dialect) (u : Bytes) → Unit u → (length u ≡ 1 → ⊥) �
 stands Csvj u x h e = string_lies u x h (e refl)
 stands Tdif u x h e = doubled_lies QUOTE u (omega arith) x h
 stands (CsvPlus s) u x h e = doubled_lies (quote_of (CsvPlus s)) u (quote_ascii (CsvPlus s)) x h
-
-pub four_spell : (l : Bytes) (n : ℕ) → length l ≡ 4 → n ≤ 4 → Spells (take n l) (get_or l 0 0 ∷ get_or l 1 0 ∷ get_or l 2 0 ∷ get_or l 3 0 ∷ 0 ∷ 0 ∷ []) n
-four_spell [] n e h = absurd (omega arith)
-four_spell (a ∷ []) n e h = absurd (omega arith)
-four_spell (a ∷ b ∷ []) n e h = absurd (omega arith)
-four_spell (a ∷ b ∷ c ∷ []) n e h = absurd (omega arith)
-four_spell (a ∷ b ∷ c ∷ d ∷ []) n e h =
-    record { spells = take-append-le n (a ∷ b ∷ c ∷ d ∷ []) (0 ∷ 0 ∷ []) h; sized = omega (arith, length-take n (a ∷ b ∷ c ∷ d ∷ [])) }
-four_spell (a ∷ b ∷ c ∷ d ∷ f ∷ l) n e h = absurd (omega arith)
 
 -- ---- the text of a unit, and then of the rest
 

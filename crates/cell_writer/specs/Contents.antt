@@ -1,5 +1,5 @@
 -- The content of a raw cell by offset: what it is from an offset on, and the unit there.
-use Rattle.std.specs.Prelude.{ℕ, ◌-◌, ◌<◌, ◌≤◌, ◌≡◌, false, ◌++◌, length, take, drop, get_or}
+use Rattle.std.specs.Prelude.{ℕ, ◌-◌, ◌<◌, ◌≤◌, ◌≡◌, false, [], ◌∷◌, ◌++◌, length, drop, get_or}
 use Rattle.model.specs.rules.Base.{Bytes, QUOTE}
 use Rattle.model.specs.rules.Report.{MAXRECORD}
 use Rattle.model.specs.rules.Decode.{undouble, between, units, text_of}
@@ -38,13 +38,10 @@ pub data Legible : Spelling → Bytes → Type 0 where
   as_it_lies : {raw : Bytes} → Legible AsItStands raw
   decoded : {c : Spelling} {raw : Bytes} → Decoded c raw → Legible c raw
 
--- the first `size` of `bytes` are the content at i, one unit or nothing, and it continues at `next`; a single byte ED is in the cell
--- itself, before `next`
-pub record Part (c : Spelling) (raw : Bytes) (i : ℕ) (bytes : Bytes) (size next : ℕ) : Type 0 where
-  pub stands : content_from c raw i ≡ take size bytes ++ content_from c raw next
+-- `text` is the content at i, one unit or nothing, and it continues at `next`; a single byte ED is in the cell itself, before `next`
+pub record Part (c : Spelling) (raw : Bytes) (i : ℕ) (text : Bytes) (next : ℕ) : Type 0 where
+  pub stands : content_from c raw i ≡ text ++ content_from c raw next
   pub on : i < next
   pub inside : next ≤ length raw
-  pub few : size ≤ 4
-  pub sized : length (take size bytes) ≡ size
-  pub unit : 0 < size → Unit (take size bytes)
-  pub single : size ≡ 1 → get_or bytes 0 0 ≡ 0xED → get_or raw (next - 1) 0 ≡ 0xED
+  pub unit : 0 < length text → Unit text
+  pub single : text ≡ 0xED ∷ [] → get_or raw (next - 1) 0 ≡ 0xED

@@ -1,16 +1,11 @@
 -- The text of a unit of content, and what it begins with.
-use Rattle.std.specs.Prelude.{ℕ, ◌≡◌, Bool, false, [], ◌∷◌, length, take}
+use Rattle.std.specs.Prelude.{Bool, false, [], ◌∷◌}
 use Rattle.model.specs.declared.Dialect.{Dialect}
 use Rattle.model.specs.declared.Dialect.TheVariants.{Csvj, Tdif, CsvPlus}
 use Rattle.model.specs.rules.Base.{Bytes, QUOTE}
 use Rattle.model.specs.rules.Dialect.{quote_of}
 use Rattle.model.specs.rules.Utf8.{is_surrogate}
 use Rattle.model.specs.rules.Text.{json_body, doubled}
-
--- the first `size` of these bytes are exactly the text w
-pub record Spells (w bytes : Bytes) (size : ℕ) : Type 0 where
-  pub spells : take size bytes ≡ w
-  pub sized : size ≡ length w
 
 -- content between the quotes of a text (§14.3 §14.4 §14.6 §14.7)
 abbrev pub body_text : Dialect → Bytes → Bytes

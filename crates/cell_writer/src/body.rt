@@ -2,80 +2,61 @@
 // stops them. The raw cell and its encoding go in; the end of the text comes out, and whether the content holds a lone surrogate. The
 // definition is `body_text` of specs/Units.antt; what stops a run is `Stops` of specs/Bodies.antt, so a new encoding changes that and not
 // the loop.
-ghost use Rattle.std.specs.Prelude.{◌≡◌, ◌||◌, ◌<◌, length, drop};
+ghost use Rattle.std.specs.Prelude.{◌≡◌, ◌<◌, length};
 ghost use Rattle.model.specs.rules.Utf8.{holds_lone};
 ghost use Rattle.buffer.specs.Writes.{Room, WrittenAt};
 ghost use Rattle.cell_decoder.specs.FirstByte.{content_in};
 ghost use Rattle.cell_decoder.specs.declared.first_byte.Spelling.TheVariants.{AsItStands};
 ghost use Rattle.cell_writer.specs.Units.{body_text, begins_lone, paired};
-ghost use Rattle.cell_writer.specs.Contents.{content_from, Legible, Decoded};
-ghost use Rattle.cell_writer.specs.Bodies.{Stops, Stepped};
+ghost use Rattle.cell_writer.specs.Contents.{Legible, Decoded};
+ghost use Rattle.cell_writer.specs.Bodies.{Stops};
 
 use crate::{escape, unit};
+use buffer::short::Short;
 use cell_decoder::first_byte::Spelling;
 use model::Dialect;
 
 // ---- what stops a run
 
-// The text of what stops a run, the first `size` of `bytes`, where the content continues, and whether it begins with a lone surrogate.
-#[derive(Clone, Copy)]
+// The text of what stops a run, where the content continues, and whether it begins with a lone surrogate.
+#[derive(Drop)]
 struct Stop {
-    bytes: [u8; 6],
-    size: usize,
+    text: Short<6>,
     next: usize,
     lone: bool,
 }
 
-// Whether the first two bytes of a lone surrogate are at i.
-fn is_paired_at(content: &[u8], i: usize) -> bool
-    requires { i < length content.now }
-    ensures { result ≡ paired (drop i content.now) }
+// Whether a content begins with the first two bytes of a lone surrogate.
+fn is_paired(content: &[u8]) -> bool
+    ensures { result ≡ paired content.now }
 {
-    if content.len() - i < 2 {
-        return false;
-    }
-    if content[i] != 0xED {
-        return false;
-    }
-    0xA0 <= content[i + 1]
+    matches!(content, [0xED, 0xA0..=0xFF, ..])
 }
 
-// Whether a whole lone surrogate is at i.
-fn is_lone_at(content: &[u8], i: usize) -> bool
-    requires { i < length content.now }
-    ensures { result ≡ begins_lone (drop i content.now) }
+// Whether a content begins with a whole lone surrogate.
+fn begins_lone(content: &[u8]) -> bool
+    ensures { result ≡ begins_lone content.now }
 {
-    if content.len() - i < 3 {
-        return false;
-    }
-    is_paired_at(content, i)
+    matches!(content, [0xED, 0xA0..=0xFF, _, ..])
 }
 
 // In a content that is not encoded, and may be any bytes.
 fn content_stop(t: Dialect, content: &[u8], i: usize) -> Stop
     requires { i < length content.now }
-    ensures { Stops AsItStands t content.now i result.bytes result.size result.next result.lone }
+    ensures { Stops AsItStands t content.now i result.text result.next result.lone }
 {
-    if escape::is_csvj(t) {
-        if is_lone_at(content, i) {
-            let x = escape::lone(content[i + 1], content[i + 2]);
-            let bytes = x.bytes;
-            return Stop {
-                bytes,
-                size: x.size,
-                next: i + 3,
-                lone: true,
-            };
-        }
+    let rest = &content[i..];
+    if escape::is_csvj(t) && begins_lone(rest) {
+        return Stop {
+            text: escape::lone(rest[1], rest[2]),
+            next: i + 3,
+            lone: true,
+        };
     }
-    let lone = is_paired_at(content, i);
-    let x = escape::byte_text(t, content[i]);
-    let bytes = x.bytes;
     Stop {
-        bytes,
-        size: x.size,
+        text: escape::byte_text(t, rest[0]),
         next: i + 1,
-        lone,
+        lone: is_paired(rest),
     }
 }
 
@@ -83,73 +64,31 @@ fn content_stop(t: Dialect, content: &[u8], i: usize) -> Stop
 fn unit_stop(c: Spelling, t: Dialect, raw: &[u8], i: usize) -> Stop
     requires i_in_bounds { i < length raw.now }
     requires decoded { Decoded c raw.now }
-    ensures { Stops c t raw.now i result.bytes result.size result.next result.lone }
+    ensures { Stops c t raw.now i result.text result.next result.lone }
 {
     let u = unit::unit_at(c, raw, i);
-    let unit = u.bytes;
-    let size = u.size;
-    if size == 0 {
+    if u.text.is_empty() {
         return Stop {
-            bytes: [0, 0, 0, 0, 0, 0],
-            size: 0,
+            text: Short::new([0; 6], 0),
             next: u.next,
             lone: false,
         };
     }
-    let lone = escape::is_lone(unit, size);
-    let x = escape::unit_text(t, unit, size);
-    let bytes = x.bytes;
     Stop {
-        bytes,
-        size: x.size,
+        text: escape::unit_text(t, u.text.as_slice()),
         next: u.next,
-        lone,
+        lone: escape::is_lone(u.text.as_slice()),
     }
 }
 
 fn stop_text(c: Spelling, t: Dialect, raw: &[u8], i: usize) -> Stop
     requires i_in_bounds { i < length raw.now }
     requires legible { Legible c raw.now }
-    ensures { Stops c t raw.now i result.bytes result.size result.next result.lone }
+    ensures { Stops c t raw.now i result.text result.next result.lone }
 {
     match c {
-        Spelling::Nothing => content_stop(t, raw, i),
-        Spelling::AsItStands => content_stop(t, raw, i),
-        Spelling::Doubled(_) => unit_stop(c, t, raw, i),
-        Spelling::Escaped => unit_stop(c, t, raw, i),
-    }
-}
-
-// The offsets at which a content is read and written next, and whether a lone surrogate was read.
-#[derive(Clone, Copy)]
-struct Cursor {
-    read: usize,
-    write: usize,
-    lone: bool,
-}
-
-fn write_stop(
-    c: Spelling,
-    t: Dialect,
-    raw: &[u8],
-    i: usize,
-    out: &mut [u8],
-    o: usize,
-    write: bool,
-) -> Cursor
-    requires i_in_bounds { i < length raw.now }
-    requires legible { Legible c raw.now }
-    requires room { Room write o (body_text t (content_from c raw.now i)) out.old }
-    ensures { Stepped c t raw.now i write out.old o out.new result.read result.write result.lone }
-{
-    let x = stop_text(c, t, raw, i);
-    let bytes = x.bytes;
-    let size = x.size;
-    let next = buffer::emit(out, o, &bytes[..size], write);
-    Cursor {
-        read: x.next,
-        write: next,
-        lone: x.lone,
+        Spelling::Nothing | Spelling::AsItStands => content_stop(t, raw, i),
+        Spelling::Doubled(_) | Spelling::Escaped => unit_stop(c, t, raw, i),
     }
 }
 
@@ -161,15 +100,6 @@ pub struct Body {
     pub end: usize,
     // Whether the content holds a lone surrogate.
     pub lone: bool,
-}
-
-fn either(a: bool, b: bool) -> bool
-    ensures { result ≡ (a || b) }
-{
-    if a {
-        return true;
-    }
-    b
 }
 
 // The content of the cell at an offset of the buffer, or only measured from there.
@@ -191,16 +121,17 @@ pub fn write_body(
     let mut i = unit::content_start(c, raw);
     let mut o = at;
     let mut lone = false;
+    // No `for`: a run and a stop have any length.
     while i < raw.len() {
         let j = crate::plain::plain_run(raw, i, p, q, q);
         o = buffer::emit(out, o, &raw[i..j], write);
         if raw.len() <= j {
             return Body { end: o, lone };
         }
-        let x = write_stop(c, t, raw, j, out, o, write);
-        i = x.read;
-        o = x.write;
-        lone = either(lone, x.lone);
+        let x = stop_text(c, t, raw, j);
+        o = buffer::emit(out, o, x.text.as_slice(), write);
+        i = x.next;
+        lone |= x.lone;
     }
     Body { end: o, lone }
 }

@@ -9,7 +9,6 @@ ghost use Rattle.model.specs.rules.Text.{is_text, cell_text};
 ghost use Rattle.buffer.specs.Writes.{Room, WrittenAt};
 ghost use Rattle.cell_decoder.specs.FirstByte.{content_in};
 ghost use Rattle.cell_decoder.specs.Sources.{content_by, Encoded};
-ghost use Rattle.cell_writer.specs.Units.{Spells};
 ghost use Rattle.cell_writer.specs.Contents.{Legible};
 ghost use Rattle.cell_writer.specs.Cells.{is_quoted, quote_by, text_cell, number_in, written_as, word_for, value_of};
 
@@ -27,8 +26,7 @@ fn is_quoted(c: Spelling, t: Dialect, raw: &[u8], only: bool, first: bool) -> bo
     ensures { result ≡ is_quoted t only first (content_in c raw.now) }
 {
     match t {
-        Dialect::Csvj => true,
-        Dialect::Tdif => true,
+        Dialect::Csvj | Dialect::Tdif => true,
         Dialect::CsvPlus(s) => special::is_quoted(s, c, raw, only, first),
     }
 }
@@ -81,53 +79,24 @@ fn write_number(c: Spelling, raw: &[u8], out: &mut [u8], o: usize, write: bool) 
 
 // ---- words
 
-// The first `size` of `bytes`.
-#[derive(Clone, Copy)]
-struct Word {
-    bytes: [u8; 5],
-    size: usize,
-}
-
-fn csvj_word(kind: Kind) -> Word
-    ensures { Spells (word_for Csvj kind) result.bytes result.size }
+fn csvj_word(kind: Kind) -> &'static [u8]
+    ensures { result.now ≡ word_for Csvj kind }
 {
     match kind {
-        Kind::Text => Word {
-            bytes: [0, 0, 0, 0, 0],
-            size: 0,
-        },
-        Kind::Number => Word {
-            bytes: [0, 0, 0, 0, 0],
-            size: 0,
-        },
-        Kind::True => Word {
-            bytes: [0x74, 0x72, 0x75, 0x65, 0],
-            size: 4,
-        },
-        Kind::False => Word {
-            bytes: [0x66, 0x61, 0x6C, 0x73, 0x65],
-            size: 5,
-        },
-        Kind::Null => Word {
-            bytes: [0x6E, 0x75, 0x6C, 0x6C, 0],
-            size: 4,
-        },
+        Kind::Text | Kind::Number => b"",
+        Kind::True => b"true",
+        Kind::False => b"false",
+        Kind::Null => b"null",
     }
 }
 
-fn word_for(t: Dialect, kind: Kind) -> Word
-    ensures { Spells (word_for t kind) result.bytes result.size }
+fn word_for(t: Dialect, kind: Kind) -> &'static [u8]
+    ensures { result.now ≡ word_for t kind }
 {
     match t {
         Dialect::Csvj => csvj_word(kind),
-        Dialect::Tdif => Word {
-            bytes: [0x5C, 0x4E, 0, 0, 0],
-            size: 2,
-        },
-        Dialect::CsvPlus(_) => Word {
-            bytes: [0, 0, 0, 0, 0],
-            size: 0,
-        },
+        Dialect::Tdif => b"\\N",
+        Dialect::CsvPlus(_) => b"",
     }
 }
 
@@ -135,10 +104,7 @@ fn write_word(t: Dialect, kind: Kind, out: &mut [u8], o: usize, write: bool) -> 
     requires { Room write o (word_for t kind) out.old }
     ensures { WrittenAt write out.old o (word_for t kind) out.new result }
 {
-    let x = word_for(t, kind);
-    let bytes = x.bytes;
-    let size = x.size;
-    buffer::emit(out, o, &bytes[..size], write)
+    buffer::emit(out, o, word_for(t, kind), write)
 }
 
 // ---- cells
@@ -159,9 +125,7 @@ fn csvj_form(kind: Kind) -> WrittenForm
     match kind {
         Kind::Text => WrittenForm::AsText,
         Kind::Number => WrittenForm::AsNumber,
-        Kind::True => WrittenForm::AsWord,
-        Kind::False => WrittenForm::AsWord,
-        Kind::Null => WrittenForm::AsWord,
+        Kind::True | Kind::False | Kind::Null => WrittenForm::AsWord,
     }
 }
 
@@ -170,10 +134,7 @@ fn tdif_form(kind: Kind) -> WrittenForm
 {
     match kind {
         Kind::Text => WrittenForm::AsText,
-        Kind::Number => WrittenForm::AsWord,
-        Kind::True => WrittenForm::AsWord,
-        Kind::False => WrittenForm::AsWord,
-        Kind::Null => WrittenForm::AsWord,
+        _ => WrittenForm::AsWord,
     }
 }
 
@@ -211,12 +172,14 @@ pub fn write_cell(
         }
         WrittenForm::AsNumber => {
             let c = source::spelling_in(src, raw);
-            let end = write_number(c, raw, out, o, write);
-            Body { end, lone: false }
+            Body {
+                end: write_number(c, raw, out, o, write),
+                lone: false,
+            }
         }
-        WrittenForm::AsWord => {
-            let end = write_word(t, kind, out, o, write);
-            Body { end, lone: false }
-        }
+        WrittenForm::AsWord => Body {
+            end: write_word(t, kind, out, o, write),
+            lone: false,
+        },
     }
 }

@@ -1,21 +1,15 @@
 // The text of one unit of content between the quotes of a target: a byte, a character of more than one byte, or a lone surrogate. The
 // unit's bytes go in, those of its text come out. The definitions are `escaped`, `surrogate` and `doubled` of model's
 // specs/rules/Text.antt, joined as `body_text` in specs/Units.antt.
-ghost use Rattle.std.specs.Prelude.{◌≡◌, [], ◌∷◌, ◌-◌, ◌<◌, ◌≤◌, take};
+ghost use Rattle.std.specs.Prelude.{◌≡◌, [], ◌∷◌, ◌<◌, ◌≤◌, length};
 ghost use Rattle.model.specs.rules.Base.{BACKSLASH};
 ghost use Rattle.model.specs.rules.Dialect.{is_csvj};
 ghost use Rattle.model.specs.rules.Text.{hex_digit, escaped, surrogate, doubled};
 ghost use Rattle.cell_decoder.specs.Units.{Unit};
-ghost use Rattle.cell_writer.specs.Units.{Spells, is_lone, body_text};
+ghost use Rattle.cell_writer.specs.Units.{is_lone, body_text};
 
+use buffer::short::Short;
 use model::Dialect;
-
-// The first `size` of `bytes`.
-#[derive(Clone, Copy)]
-pub struct UnitText {
-    pub bytes: [u8; 6],
-    pub size: usize,
-}
 
 // ---- strings of CSVJ
 
@@ -23,166 +17,108 @@ fn hex_digit(n: u8) -> u8
     requires { n < 0x20 }
     ensures { result ≡ hex_digit n }
 {
-    if n <= 9 {
-        return 0x30 + n;
-    }
-    0x57 + n
+    if n <= 9 { b'0' + n } else { b'a' - 10 + n }
 }
 
 // A backslash and a letter.
-fn short(letter: u8) -> UnitText
-    ensures { Spells (BACKSLASH ∷ letter ∷ []) result.bytes result.size }
+fn short(letter: u8) -> Short<6>
+    ensures { result ≡ BACKSLASH ∷ letter ∷ [] }
 {
-    UnitText {
-        bytes: [0x5C, letter, 0, 0, 0, 0],
-        size: 2,
-    }
+    Short::new([b'\\', letter, 0, 0, 0, 0], 2)
 }
 
-fn verbatim_byte(b: u8) -> UnitText
-    ensures { Spells (b ∷ []) result.bytes result.size }
+fn verbatim_byte(b: u8) -> Short<6>
+    ensures { result ≡ b ∷ [] }
 {
-    UnitText {
-        bytes: [b, 0, 0, 0, 0, 0],
-        size: 1,
-    }
+    Short::new([b, 0, 0, 0, 0, 0], 1)
 }
 
-// A byte below 20 hex (§14.3).
-fn control(b: u8) -> UnitText
-    requires { b < 0x20 }
-    ensures { Spells (escaped b) result.bytes result.size }
+// A byte of a string (§14.3).
+fn escape(b: u8) -> Short<6>
+    ensures { result ≡ escaped b }
 {
-    if b == 0x08 {
-        return short(0x62);
+    match b {
+        b'"' | b'\\' => short(b),
+        0x20.. => verbatim_byte(b),
+        0x08 => short(b'b'),
+        b'\t' => short(b't'),
+        b'\n' => short(b'n'),
+        0x0C => short(b'f'),
+        b'\r' => short(b'r'),
+        _ => {
+            let high = hex_digit(b / 0x10);
+            let low = hex_digit(b % 0x10);
+            Short::new([b'\\', b'u', b'0', b'0', high, low], 6)
+        }
     }
-    if b == 0x09 {
-        return short(0x74);
-    }
-    if b == 0x0A {
-        return short(0x6E);
-    }
-    if b == 0x0C {
-        return short(0x66);
-    }
-    if b == 0x0D {
-        return short(0x72);
-    }
-    let high = hex_digit(b / 0x10);
-    let low = hex_digit(b % 0x10);
-    UnitText {
-        bytes: [0x5C, 0x75, 0x30, 0x30, high, low],
-        size: 6,
-    }
-}
-
-// A byte of a string.
-fn escape(b: u8) -> UnitText
-    ensures { Spells (escaped b) result.bytes result.size }
-{
-    if b == 0x22 {
-        return short(b);
-    }
-    if b == 0x5C {
-        return short(b);
-    }
-    if 0x20 <= b {
-        return verbatim_byte(b);
-    }
-    control(b)
-}
-
-// The low bits of a continuation byte, 0 for a byte below 80 hex.
-fn later_bits(c: u8) -> u8
-    ensures { result ≡ c - 0x80 }
-{
-    if c < 0x80 {
-        return 0;
-    }
-    c - 0x80
 }
 
 // The lone surrogate ED b c: \ud and three digits (§14.4).
-pub fn lone(b: u8, c: u8) -> UnitText
+pub fn lone(b: u8, c: u8) -> Short<6>
     requires { 0x80 ≤ b }
-    ensures { Spells (surrogate b c) result.bytes result.size }
+    ensures { result ≡ surrogate b c }
 {
     let bits = (b - 0x80) % 0x40;
     let second = hex_digit(bits / 4);
-    let third = hex_digit(bits % 4 * 4 + later_bits(c) / 0x10);
+    let third = hex_digit(bits % 4 * 4 + c.saturating_sub(0x80) / 0x10);
     let fourth = hex_digit(c % 0x10);
-    UnitText {
-        bytes: [0x5C, 0x75, 0x64, second, third, fourth],
-        size: 6,
-    }
+    Short::new([b'\\', b'u', b'd', second, third, fourth], 6)
 }
 
 // ---- text with doubled quotes
 
-fn double(q: u8, b: u8) -> UnitText
-    ensures { Spells (doubled q (b ∷ [])) result.bytes result.size }
+fn double(q: u8, b: u8) -> Short<6>
+    ensures { result ≡ doubled q (b ∷ []) }
 {
     if b == q {
-        return UnitText {
-            bytes: [b, b, 0, 0, 0, 0],
-            size: 2,
-        };
+        return Short::new([b, b, 0, 0, 0, 0], 2);
     }
     verbatim_byte(b)
 }
 
 // ---- units
 
-pub fn byte_text(t: Dialect, b: u8) -> UnitText
-    ensures { Spells (body_text t (b ∷ [])) result.bytes result.size }
+pub fn byte_text(t: Dialect, b: u8) -> Short<6>
+    ensures { result ≡ body_text t (b ∷ []) }
 {
-    let q = cell_lexer::quote_of(t);
     match t {
         Dialect::Csvj => escape(b),
-        Dialect::Tdif => double(q, b),
-        Dialect::CsvPlus(_) => double(q, b),
+        Dialect::Tdif | Dialect::CsvPlus(_) => double(cell_lexer::quote_of(t), b),
     }
 }
 
-// Whether a unit, the first `size` of `bytes`, is a lone surrogate.
-pub fn is_lone(bytes: [u8; 4], size: usize) -> bool
-    requires { size ≤ 4 }
-    ensures { result ≡ is_lone (take size bytes) }
+// Whether a unit is a lone surrogate.
+pub fn is_lone(unit: &[u8]) -> bool
+    ensures { result ≡ is_lone unit.now }
 {
-    if size != 3 {
-        return false;
-    }
-    if bytes[0] != 0xED {
-        return false;
-    }
-    0xA0 <= bytes[1]
+    matches!(unit, [0xED, 0xA0..=0xFF, _])
 }
 
 pub fn is_csvj(t: Dialect) -> bool
     ensures { result ≡ is_csvj t }
 {
-    match t {
-        Dialect::Csvj => true,
-        Dialect::Tdif => false,
-        Dialect::CsvPlus(_) => false,
-    }
+    matches!(t, Dialect::Csvj)
 }
 
-// The text of a unit, the first `size` of `bytes`.
-pub fn unit_text(t: Dialect, bytes: [u8; 4], size: usize) -> UnitText
-    requires { (size ≤ 4) × Unit (take size bytes) }
-    ensures { Spells (body_text t (take size bytes)) result.bytes result.size }
+fn verbatim(unit: &[u8]) -> Short<6>
+    requires { length unit.now ≤ 6 }
+    ensures { result ≡ unit.now }
 {
-    if size == 1 {
-        return byte_text(t, bytes[0]);
+    let mut bytes = [0u8; 6];
+    let size = buffer::copy(&mut bytes, 0, unit);
+    Short::new(bytes, size)
+}
+
+// The text of a unit.
+pub fn unit_text(t: Dialect, unit: &[u8]) -> Short<6>
+    requires { Unit unit.now }
+    ensures { result ≡ body_text t unit.now }
+{
+    if unit.len() == 1 {
+        return byte_text(t, unit[0]);
     }
-    if is_csvj(t) {
-        if is_lone(bytes, size) {
-            return lone(bytes[1], bytes[2]);
-        }
+    if is_csvj(t) && is_lone(unit) {
+        return lone(unit[1], unit[2]);
     }
-    UnitText {
-        bytes: [bytes[0], bytes[1], bytes[2], bytes[3], 0, 0],
-        size,
-    }
+    verbatim(unit)
 }

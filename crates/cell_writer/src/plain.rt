@@ -9,25 +9,7 @@ ghost use Rattle.cell_writer.specs.PlainRuns.{is_plain, plain_run};
 fn is_plain(p: u8, q: u8, r: u8, b: u8) -> bool
     ensures { result ≡ is_plain p q r b }
 {
-    if b < 0x20 {
-        return false;
-    }
-    if b == 0x5C {
-        return false;
-    }
-    if b == 0xED {
-        return false;
-    }
-    if b == p {
-        return false;
-    }
-    if b == q {
-        return false;
-    }
-    if b == r {
-        return false;
-    }
-    true
+    0x20 <= b && b != b'\\' && b != 0xED && b != p && b != q && b != r
 }
 
 // The end of the run from `at`, a byte at a time.

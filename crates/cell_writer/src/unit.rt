@@ -2,7 +2,7 @@
 // The definition is `Part` of specs/Contents.antt.
 ghost use Rattle.std.specs.Prelude.{◌≡◌, ◌<◌, length};
 ghost use Rattle.cell_decoder.specs.FirstByte.{content_in};
-ghost use Rattle.cell_decoder.specs.declared.first_byte.Spelling.TheVariants.{AsItStands, Doubled, Escaped};
+ghost use Rattle.cell_decoder.specs.declared.first_byte.Spelling.TheVariants.{Doubled, Escaped};
 ghost use Rattle.cell_writer.specs.Contents.{content_from, source_quote, Part};
 
 use cell_decoder::escape;
@@ -16,8 +16,7 @@ pub fn content_start(c: Spelling, raw: &[u8]) -> usize
     match c {
         Spelling::Nothing => raw.len(),
         Spelling::AsItStands => 0,
-        Spelling::Doubled(_) => 1,
-        Spelling::Escaped => 1,
+        Spelling::Doubled(_) | Spelling::Escaped => 1,
     }
 }
 
@@ -26,78 +25,34 @@ pub fn quote_in(c: Spelling) -> u8
     ensures { result ≡ source_quote c }
 {
     match c {
-        Spelling::Nothing => 0x22,
-        Spelling::AsItStands => 0x22,
         Spelling::Doubled(q) => q,
-        Spelling::Escaped => 0x22,
-    }
-}
-
-// One verbatim byte.
-fn byte_at(raw: &[u8], i: usize) -> Unescaped
-    requires { i < length raw.now }
-    ensures { Part AsItStands raw.now i result.bytes result.size result.next }
-{
-    Unescaped {
-        bytes: [raw[i], 0, 0, 0],
-        size: 1,
-        next: i + 1,
+        Spelling::Nothing | Spelling::AsItStands | Spelling::Escaped => b'"',
     }
 }
 
 // Two quotes are one quote of content, and a single quote ends the content.
 fn doubled_at(q: u8, raw: &[u8], i: usize) -> Unescaped
     requires { i < length raw.now }
-    ensures { Part (Doubled q) raw.now i result.bytes result.size result.next }
+    ensures { Part (Doubled q) raw.now i result.text result.next }
 {
     let b = raw[i];
     if b != q {
-        return Unescaped {
-            bytes: [b, 0, 0, 0],
-            size: 1,
-            next: i + 1,
-        };
+        return Unescaped::byte(b, i + 1);
     }
-    if raw.len() - i < 2 {
-        return Unescaped {
-            bytes: [0, 0, 0, 0],
-            size: 0,
-            next: raw.len(),
-        };
+    if raw.len() - i < 2 || raw[i + 1] != q {
+        return Unescaped::end_of(raw);
     }
-    if raw[i + 1] != q {
-        return Unescaped {
-            bytes: [0, 0, 0, 0],
-            size: 0,
-            next: raw.len(),
-        };
-    }
-    Unescaped {
-        bytes: [b, 0, 0, 0],
-        size: 1,
-        next: i + 2,
-    }
+    Unescaped::byte(b, i + 2)
 }
 
 fn string_at(raw: &[u8], i: usize) -> Unescaped
     requires { i < length raw.now }
-    ensures { Part Escaped raw.now i result.bytes result.size result.next }
+    ensures { Part Escaped raw.now i result.text result.next }
 {
-    let b = raw[i];
-    if b == 0x22 {
-        return Unescaped {
-            bytes: [0, 0, 0, 0],
-            size: 0,
-            next: raw.len(),
-        };
-    }
-    if b == 0x5C {
-        return escape::unescape_at(raw, i);
-    }
-    Unescaped {
-        bytes: [b, 0, 0, 0],
-        size: 1,
-        next: i + 1,
+    match raw[i] {
+        b'"' => Unescaped::end_of(raw),
+        b'\\' => escape::unescape_at(raw, i),
+        b => Unescaped::byte(b, i + 1),
     }
 }
 
@@ -105,11 +60,10 @@ fn string_at(raw: &[u8], i: usize) -> Unescaped
 // is none.
 pub fn unit_at(c: Spelling, raw: &[u8], i: usize) -> Unescaped
     requires { i < length raw.now }
-    ensures { Part c raw.now i result.bytes result.size result.next }
+    ensures { Part c raw.now i result.text result.next }
 {
     match c {
-        Spelling::Nothing => byte_at(raw, i),
-        Spelling::AsItStands => byte_at(raw, i),
+        Spelling::Nothing | Spelling::AsItStands => Unescaped::byte(raw[i], i + 1),
         Spelling::Doubled(q) => doubled_at(q, raw, i),
         Spelling::Escaped => string_at(raw, i),
     }

@@ -1,18 +1,14 @@
--- `cell_decoder::decode_cell` meets its contract: the check decides, and a refusal names its fault.
-use mathlib.Core.Path.{sym, ◌∙◌}
-use Rattle.cell_decoder.proofs.DecoderAnswers.{sound, unsound}
+-- `cell_decoder::decode_cell` meets its contract: a refusal names the fault that the check found.
+use mathlib.Core.Path.{sym}
+use borrow.Author.Rules.{rules}
+use Rattle.std.proofs.lemmas.Result.{err_from_is_err_and, MatchResult-weaker}
+use Rattle.cell_decoder.proofs.DecoderAnswers.{unsound_by}
 use Rattle.cell_decoder.proofs.decode_cell.Goals as goal
 
-pub returns-in-Ok : goal.returns-in-Ok
-returns-in-Ok c =
-    let called = c.decode_sound in
+pub returns-in_err-map_err-clause-result_value : goal.returns-in_err-map_err-clause-result_value
+returns-in_err-map_err-clause-result_value c =
     let a = c.args in
-    let p = sound a.d a.raw.now a.room.now called.result called.new.room
-    (sym c.validate_cell.ensures ∙ c.in-Ok.is) (called.ensures.result_value, called.ensures.room_after) in
-    record { result_value = p.0; room_after = p.1 }
-
-pub returns-in-Err : goal.returns-in-Err
-returns-in-Err c =
-    let a = c.args in
-    let p = unsound a.d a.raw.now a.room.now _ _ _ (sym c.validate_cell.ensures ∙ c.in-Err.is) c.record_report.ensures in
-    record { result_value = p.0; room_after = p.1 }
+    let p = err_from_is_err_and c.from_residual.result c.from_residual.ensures.1 in
+    let e = c.in_err-map_err.field-0.0 in
+    rw (p.1, p.2) (unsound_by a.d a.raw.now a.room.now e (sym c.validate_cell.ensures)
+    (MatchResult-weaker c.validate_cell.result c.in_err-map_err.ensures.cases (λ _ k. cc) (λ f k. search rules))).0

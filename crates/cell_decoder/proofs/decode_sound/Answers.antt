@@ -9,9 +9,6 @@ returns-then-room-size c =
     let p = too_long a.d a.raw.now a.room.now _ (omega (arith, c.content_length-size.ensures, c.if-room-size.true)) c.call_report.ensures in
     record { result_value = p.0; room_after = p.1 }
 
-pub write_content-requires : goal.write_content-requires
-write_content-requires c = omega (arith, c.content_length-size.ensures, c.if-room-size.false)
-
 pub returns : goal.returns
 returns c =
     let a = c.args in

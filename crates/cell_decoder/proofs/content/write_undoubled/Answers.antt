@@ -6,24 +6,15 @@ use native.Mathlib.Omega.{arith}
 use lib.ListN.{length, drop, get_or}
 use Rattle.model.specs.rules.Decode.{undouble}
 use Rattle.cell_decoder.proofs.DoubledQuotes.{at_end, at_other, at_double, at_close, at_last}
-use Rattle.buffer.proofs.WriteProgress.{Writing, start, here, store, filled}
+use Rattle.buffer.proofs.WriteProgress.{Writing, here, store, filled}
 use Rattle.cell_decoder.proofs.content.write_undoubled.Goals as goal
 use Rattle.cell_decoder.proofs.content.write_undoubled.Goals.{then-b-q+else-raw-i+else-raw-i-2, else-b-q}
-
-pub loop-i-init : goal.loop-i-init
-loop-i-init c = start _ _ _ (omega (arith, c.requires))
-
-pub shape_of-out-then-raw-i : goal.shape_of-out-then-raw-i
-shape_of-out-then-raw-i c = c.loop-i.invariant.long
 
 pub returns-then-raw-i : goal.returns-then-raw-i
 returns-then-raw-i c =
     let a = c.args in
     filled (rw (at_last a.q a.raw.now c.loop-i.i c.loop-i-test.true c.if-b-q.true c.if-raw-i.true) at
     c.loop-i.invariant)
-
-pub shape_of-out-then-raw-i-2 : goal.shape_of-out-then-raw-i-2
-shape_of-out-then-raw-i-2 c = c.loop-i.invariant.long
 
 pub returns-then-raw-i-2 : goal.returns-then-raw-i-2
 returns-then-raw-i-2 c =
@@ -46,47 +37,6 @@ bounds-out-o c =
     rw (turn).0 at c.loop-i.invariant in
     here (now-left)
 
-pub overflow_add-o : goal.overflow_add-o
-overflow_add-o c =
-    let turn : (let raw = c.args.raw.now in let q = c.args.q in let i = c.loop-i.i in (undouble q false (drop i raw) ≡ get_or raw i 0 ∷ undouble q false (drop (c.if-b-q.i + 1) raw)) × (i ≤ c.if-b-q.i) × (c.if-b-q.i < length raw)) =
-    let raw = c.args.raw.now in
-    let q = c.args.q in
-    let i = c.loop-i.i in
-    let h = c.loop-i-test.true in
-    elim c.if-b-q.branch [
-      | then-b-q+else-raw-i+else-raw-i-2 w ↦ rw w.i-is (at_double q raw i h w.if-b-q.true (omega (arith, w.if-raw-i.false)) w.if-raw-i-2.false, omega arith, omega (arith, w.if-raw-i.false))
-      | else-b-q w ↦ rw w.i-is (at_other q raw i h w.if-b-q.false, omega arith, omega arith)
-    ] in
-    let now-left : (let raw = c.args.raw.now in let q = c.args.q in let l = c.loop-i in Writing c.args.out.now 0 (undouble q false (drop 1 raw)) l.out l.o (get_or raw l.i 0 ∷ undouble q false (drop (c.if-b-q.i + 1) raw))) =
-    rw (turn).0 at c.loop-i.invariant in
-    omega (arith, here (now-left), (now-left).long)
-
-pub overflow_add-i-in-loop-i : goal.overflow_add-i-in-loop-i
-overflow_add-i-in-loop-i c =
-    let turn : (let raw = c.args.raw.now in let q = c.args.q in let i = c.loop-i.i in (undouble q false (drop i raw) ≡ get_or raw i 0 ∷ undouble q false (drop (c.if-b-q.i + 1) raw)) × (i ≤ c.if-b-q.i) × (c.if-b-q.i < length raw)) =
-    let raw = c.args.raw.now in
-    let q = c.args.q in
-    let i = c.loop-i.i in
-    let h = c.loop-i-test.true in
-    elim c.if-b-q.branch [
-      | then-b-q+else-raw-i+else-raw-i-2 w ↦ rw w.i-is (at_double q raw i h w.if-b-q.true (omega (arith, w.if-raw-i.false)) w.if-raw-i-2.false, omega arith, omega (arith, w.if-raw-i.false))
-      | else-b-q w ↦ rw w.i-is (at_other q raw i h w.if-b-q.false, omega arith, omega arith)
-    ] in
-    omega (arith, (turn).2)
-
-pub loop-i-smaller : goal.loop-i-smaller
-loop-i-smaller c =
-    let turn : (let raw = c.args.raw.now in let q = c.args.q in let i = c.loop-i.i in (undouble q false (drop i raw) ≡ get_or raw i 0 ∷ undouble q false (drop (c.if-b-q.i + 1) raw)) × (i ≤ c.if-b-q.i) × (c.if-b-q.i < length raw)) =
-    let raw = c.args.raw.now in
-    let q = c.args.q in
-    let i = c.loop-i.i in
-    let h = c.loop-i-test.true in
-    elim c.if-b-q.branch [
-      | then-b-q+else-raw-i+else-raw-i-2 w ↦ rw w.i-is (at_double q raw i h w.if-b-q.true (omega (arith, w.if-raw-i.false)) w.if-raw-i-2.false, omega arith, omega (arith, w.if-raw-i.false))
-      | else-b-q w ↦ rw w.i-is (at_other q raw i h w.if-b-q.false, omega arith, omega arith)
-    ] in
-    omega (arith, (turn).1, (turn).2)
-
 pub loop-i-preserved : goal.loop-i-preserved
 loop-i-preserved c =
     let turn : (let raw = c.args.raw.now in let q = c.args.q in let i = c.loop-i.i in (undouble q false (drop i raw) ≡ get_or raw i 0 ∷ undouble q false (drop (c.if-b-q.i + 1) raw)) × (i ≤ c.if-b-q.i) × (c.if-b-q.i < length raw)) =
@@ -101,9 +51,6 @@ loop-i-preserved c =
     let now-left : (let raw = c.args.raw.now in let q = c.args.q in let l = c.loop-i in Writing c.args.out.now 0 (undouble q false (drop 1 raw)) l.out l.o (get_or raw l.i 0 ∷ undouble q false (drop (c.if-b-q.i + 1) raw))) =
     rw (turn).0 at c.loop-i.invariant in
     store (now-left)
-
-pub shape_of-out : goal.shape_of-out
-shape_of-out c = c.loop-i.invariant.long
 
 pub returns : goal.returns
 returns c =

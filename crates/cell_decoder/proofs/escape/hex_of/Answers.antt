@@ -1,17 +1,17 @@
--- `cell_decoder::escape::hex_of` meets its contract, by its two tests; a byte that is no digit has a value too, at most 168.
+-- `cell_decoder::escape::hex_of` meets its contract, by its tests; a byte that is no digit has a value too, at most 168.
 use native.Mathlib.Omega.{arith}
 use Rattle.model.specs.rules.Base.{choose◌then◌else◌}
 use Rattle.model.proofs.Tests.{tests}
 use Rattle.cell_decoder.proofs.escape.hex_of.Goals as goal
 
-pub returns-then-b-le57 : goal.returns-then-b-le57
+pub returns-in-0-to-57 : goal.returns-in-0-to-57
 unfolding choose◌then◌else◌
-returns-then-b-le57 c = (search tests, omega arith)
+returns-in-0-to-57 c = (grind (arith, tests), omega arith)
 
-pub returns-then-b-le70 : goal.returns-then-b-le70
+pub returns-in-0-to-70 : goal.returns-in-0-to-70
 unfolding choose◌then◌else◌
-returns-then-b-le70 c = (search tests, omega arith)
+returns-in-0-to-70 c = (grind (arith, tests), omega arith)
 
-pub returns : goal.returns
+pub returns-in_default : goal.returns-in_default
 unfolding choose◌then◌else◌
-returns c = (search tests, omega arith)
+returns-in_default c = (grind (arith, tests), omega arith)

@@ -1,28 +1,29 @@
 -- `cell_decoder::escape::short_escape` meets its contract, by its tests.
+use native.Mathlib.Omega.{arith}
 use Rattle.model.specs.rules.Base.{choose◌then◌else◌}
 use Rattle.model.proofs.Tests.{tests}
 use Rattle.cell_decoder.proofs.escape.short_escape.Goals as goal
 
-pub returns-then-b-eq98 : goal.returns-then-b-eq98
+pub returns-in-98 : goal.returns-in-98
 unfolding choose◌then◌else◌
-returns-then-b-eq98 c = search tests
+returns-in-98 c = grind (arith, tests)
 
-pub returns-then-b-eq102 : goal.returns-then-b-eq102
+pub returns-in-102 : goal.returns-in-102
 unfolding choose◌then◌else◌
-returns-then-b-eq102 c = search tests
+returns-in-102 c = grind (arith, tests)
 
-pub returns-then-b-eq110 : goal.returns-then-b-eq110
+pub returns-in-110 : goal.returns-in-110
 unfolding choose◌then◌else◌
-returns-then-b-eq110 c = search tests
+returns-in-110 c = grind (arith, tests)
 
-pub returns-then-b-eq114 : goal.returns-then-b-eq114
+pub returns-in-114 : goal.returns-in-114
 unfolding choose◌then◌else◌
-returns-then-b-eq114 c = search tests
+returns-in-114 c = grind (arith, tests)
 
-pub returns-then-b-eq116 : goal.returns-then-b-eq116
+pub returns-in-116 : goal.returns-in-116
 unfolding choose◌then◌else◌
-returns-then-b-eq116 c = search tests
+returns-in-116 c = grind (arith, tests)
 
-pub returns : goal.returns
+pub returns-in_default : goal.returns-in_default
 unfolding choose◌then◌else◌
-returns c = search tests
+returns-in_default c = grind (arith, tests)

@@ -1,6 +1,5 @@
 -- `cell_decoder::source::spelling_in` meets its contract: in a file the first byte determines the encoding.
 use mathlib.Core.Path.{sym, ap, ◌∙◌}
-use borrow.Author.Rules.{rules}
 use Rattle.cell_decoder.specs.FirstByte.{spelling_by, content_in}
 use Rattle.cell_decoder.specs.Sources.{content_by, spelling_in}
 use Rattle.cell_decoder.specs.declared.first_byte.Spelling.{Spelling}
@@ -18,6 +17,3 @@ returns-in-File c =
           ∙ ap (λ (src : Source). content_by src raw) (sym c.in-File.is);
       value = r ∙ ap (λ (src : Source). spelling_in src raw) (sym c.in-File.is);
     }
-
-pub returns-in-Contents : goal.returns-in-Contents
-returns-in-Contents c = record { raw_value = search rules; value = search rules }

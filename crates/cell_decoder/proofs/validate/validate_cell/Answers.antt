@@ -5,13 +5,6 @@ use Rattle.model.specs.rules.Base.{choose◌then◌else◌}
 use Rattle.cell_decoder.proofs.CellValidation.{validated_by, validated}
 use Rattle.cell_decoder.proofs.validate.validate_cell.Goals as goal
 
-pub returns-then-is_whole : goal.returns-then-is_whole
-unfolding choose◌then◌else◌
-returns-then-is_whole c =
-    let a = c.args in
-    sym (validated a.d a.raw.now c.cell_end.result c.cell_end.ensures ∙
-    ap (validated_by a.d (length a.raw.now)) c.in-Open.is ∙ rw (← c.is_whole.ensures, c.if-is_whole.true))
-
 pub returns-in-Stopped : goal.returns-in-Stopped
 returns-in-Stopped c =
     let a = c.args in
@@ -24,9 +17,16 @@ returns-in-Refused c =
     sym (validated a.d a.raw.now c.cell_end.result c.cell_end.ensures ∙
     ap (validated_by a.d (length a.raw.now)) c.in-Refused.is)
 
-pub returns-else-is_whole : goal.returns-else-is_whole
+pub returns-in-Open : goal.returns-in-Open
 unfolding choose◌then◌else◌
-returns-else-is_whole c =
+returns-in-Open c =
+    let a = c.args in
+    sym (validated a.d a.raw.now c.cell_end.result c.cell_end.ensures ∙
+    ap (validated_by a.d (length a.raw.now)) c.in-Open.is ∙ rw (← c.is_whole.ensures, c.if-is_whole.true))
+
+pub returns-in-Open-2 : goal.returns-in-Open-2
+unfolding choose◌then◌else◌
+returns-in-Open-2 c =
     let a = c.args in
     sym (validated a.d a.raw.now c.cell_end.result c.cell_end.ensures ∙
     ap (validated_by a.d (length a.raw.now)) c.in-Open.is ∙ rw (← c.is_whole.ensures, c.if-is_whole.false))

@@ -1,11 +1,11 @@
-use mathlib.Core.Path.{◌≡◌, ap, ◌∙◌}
+use mathlib.Core.Path.{◌≡◌, refl, sym, ap, ◌∙◌}
 use mathlib.Core.Bool.{Bool, ◌||◌}
 use mathlib.Core.List.{◌++◌}
 use Prim.Native.Nat.{◌-◌}
 use native.Mathlib.Omega.{arith}
 use lib.ListN.{take, drop}
 use Rattle.model.specs.rules.Utf8.{holds_lone}
-use Rattle.buffer.proofs.WriteProgress.{Emitting, emitting, same_long, room_next, room_rest, put_next, put_whole}
+use Rattle.buffer.proofs.WriteProgress.{Emitting, emitting, room_next, put_next, put_whole, room_as, emitted_as}
 use Rattle.cell_decoder.specs.FirstByte.{content_in}
 use Rattle.cell_writer.specs.Units.{body_text}
 use Rattle.cell_writer.specs.Contents.{content_from}
@@ -17,12 +17,6 @@ pub loop-i-init : goal.loop-i-init
 loop-i-init c =
     let e = c.content_start-i.ensures in
     (rw e (emitting _ c.requires.room), rw e (lone_first (content_in c.args.c c.args.raw.now)))
-
-pub slice_bounds-emit-count : goal.slice_bounds-emit-count
-slice_bounds-emit-count c = omega (arith, c.plain_run-j.ensures)
-
-pub slice_bounds-emit-start : goal.slice_bounds-emit-start
-slice_bounds-emit-start c = omega (arith, c.plain_run-j.ensures)
 
 pub slice_bounds-emit-end : goal.slice_bounds-emit-end
 slice_bounds-emit-end c =
@@ -42,19 +36,6 @@ emit-o-requires c =
     let a = c.args in
     room_next (take (c.plain_run-j.result - l.i) (drop l.i a.raw.now))
     (body_text a.t (content_from a.c a.raw.now c.plain_run-j.result)) run-next
-
-pub shape_of-out-then-raw-j : goal.shape_of-out-then-raw-j
-shape_of-out-then-raw-j c =
-    let run-next : (let l = c.loop-i in let a = c.args in Emitting a.write a.out.now a.at (body_text a.t (content_in a.c a.raw.now)) l.out l.o (take (c.plain_run-j.result - l.i) (drop l.i a.raw.now) ++ body_text a.t (content_from a.c a.raw.now c.plain_run-j.result))) =
-    let a = c.args in
-    let source = c.quote_in-q in
-    let target = c.quote_of-p in
-    rw (text_part a.raw.now c.loop-i.i c.plain_run-j.result target.result source.result a.c source.ensures
-    c.plain_run-j.ensures a.t target.ensures) at c.loop-i.invariant.0 in
-    let stop-next : (let a = c.args in Emitting a.write a.out.now a.at (body_text a.t (content_in a.c a.raw.now)) c.emit-o.new.out c.emit-o.result (body_text a.t (content_from a.c a.raw.now c.plain_run-j.result))) =
-    let a = c.args in
-    put_next (take (c.plain_run-j.result - c.loop-i.i) (drop c.loop-i.i a.raw.now)) run-next c.emit-o.ensures in
-    same_long stop-next
 
 pub returns-then-raw-j : goal.returns-then-raw-j
 returns-then-raw-j c =
@@ -80,8 +61,8 @@ returns-then-raw-j c =
       lone_value = lone_done l.lone run-tells (lone_end (content_end a.c a.raw.now c.plain_run-j.result c.if-raw-j.true));
     }
 
-pub write_stop-x-requires : goal.write_stop-x-requires
-write_stop-x-requires c =
+pub emit-o-requires-in-loop-i : goal.emit-o-requires-in-loop-i
+emit-o-requires-in-loop-i c =
     let run-next : (let l = c.loop-i in let a = c.args in Emitting a.write a.out.now a.at (body_text a.t (content_in a.c a.raw.now)) l.out l.o (take (c.plain_run-j.result - l.i) (drop l.i a.raw.now) ++ body_text a.t (content_from a.c a.raw.now c.plain_run-j.result))) =
     let a = c.args in
     let source = c.quote_in-q in
@@ -91,12 +72,9 @@ write_stop-x-requires c =
     let stop-next : (let a = c.args in Emitting a.write a.out.now a.at (body_text a.t (content_in a.c a.raw.now)) c.emit-o.new.out c.emit-o.result (body_text a.t (content_from a.c a.raw.now c.plain_run-j.result))) =
     let a = c.args in
     put_next (take (c.plain_run-j.result - c.loop-i.i) (drop c.loop-i.i a.raw.now)) run-next c.emit-o.ensures in
-    record { i_in_bounds = c.if-raw-j.false; legible = c.requires.legible; room = room_rest stop-next }
-
-pub loop-i-smaller : goal.loop-i-smaller
-loop-i-smaller c =
-    let t = c.write_stop-x.ensures in
-    omega (arith, t.on, t.inside, c.plain_run-j.ensures)
+    let x = c.stop_text-x in
+    let a = c.args in
+    room_as c.as_slice.ensures.text (room_next x.result.text (body_text a.t (content_from a.c a.raw.now x.result.next)) (rw x.ensures.stands at stop-next))
 
 pub loop-i-preserved : goal.loop-i-preserved
 loop-i-preserved c =
@@ -116,16 +94,13 @@ loop-i-preserved c =
     let stop-next : (let a = c.args in Emitting a.write a.out.now a.at (body_text a.t (content_in a.c a.raw.now)) c.emit-o.new.out c.emit-o.result (body_text a.t (content_from a.c a.raw.now c.plain_run-j.result))) =
     let a = c.args in
     put_next (take (c.plain_run-j.result - c.loop-i.i) (drop c.loop-i.i a.raw.now)) run-next c.emit-o.ensures in
-    let x = c.write_stop-x in
+    let x = c.stop_text-x in
     let t = x.ensures in
     let a = c.args in (
-      put_next t.w (rw t.stands at stop-next) t.put,
-      lone_step c.loop-i.lone x.result.lone (holds_lone (content_from a.c a.raw.now x.result.read))
-          run-tells t.tells c.either-lone.ensures,
+      put_next x.result.text (rw t.stands at stop-next) (emitted_as (sym c.as_slice.ensures.text) c.emit-o-in-loop-i.ensures),
+      lone_step c.loop-i.lone x.result.lone (holds_lone (content_from a.c a.raw.now x.result.next))
+          run-tells t.tells refl,
     )
-
-pub shape_of-out : goal.shape_of-out
-shape_of-out c = same_long c.loop-i.invariant.0
 
 pub returns : goal.returns
 returns c =

@@ -6,7 +6,7 @@ use Rattle.buffer.proofs.WriteProgress.{room_as, emitted_as}
 use Rattle.cell_decoder.specs.declared.first_byte.Spelling.{Spelling}
 use Rattle.cell_decoder.specs.declared.first_byte.Spelling.TheVariants.{Nothing, AsItStands, Doubled, Escaped}
 use Rattle.cell_writer.specs.Cells.{number_in}
-use Rattle.cell_writer.proofs.Cells.{written_nothing, written_long}
+use Rattle.cell_writer.proofs.Cells.{written_nothing}
 use Rattle.cell_writer.proofs.cell.write_number.Goals as goal
 
 as_it_stands : (c : Spelling) (raw : Bytes) → (c ≡ Nothing → ⊥) → raw ≡ number_in c raw
@@ -15,19 +15,7 @@ as_it_stands AsItStands raw h = refl
 as_it_stands (Doubled q) raw h = refl
 as_it_stands Escaped raw h = refl
 
-pub emit-requires : goal.emit-requires
-emit-requires c = room_as (as_it_stands c.args.c c.args.raw.now c.in_default.not-Nothing) c.requires
-
 pub returns-in-Nothing : goal.returns-in-Nothing
 returns-in-Nothing c =
     let e : [] ≡ number_in c.args.c c.args.raw.now = sym (ap (λ (s : Spelling). number_in s c.args.raw.now) c.in-Nothing.is) in
     emitted_as (sym e) (written_nothing c.args.write (room_as e c.requires))
-
-pub shape_of-out : goal.shape_of-out
-shape_of-out c =
-    written_long c.args.write c.requires (emitted_as (sym (as_it_stands c.args.c c.args.raw.now c.in_default.not-Nothing)) c.emit.ensures)
-
-pub returns-in_default : goal.returns-in_default
-returns-in_default c =
-    emitted_as (sym (as_it_stands c.args.c c.args.raw.now c.in_default.not-Nothing))
-    c.emit.ensures

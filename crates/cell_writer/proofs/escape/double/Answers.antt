@@ -1,10 +1,14 @@
 -- `cell_writer::escape::double` meets its contract: a quote is written twice.
-use mathlib.Core.Path.{refl}
-use Rattle.cell_writer.proofs.Units.{spells_as, doubled_quote, doubled_itself}
+use native.Mathlib.Omega.{arith}
+use Rattle.model.specs.rules.Base.{choose◌then◌else◌}
+use Rattle.model.specs.rules.Text.{doubled}
+use Rattle.model.proofs.Tests.{tests}
 use Rattle.cell_writer.proofs.escape.double.Goals as goal
 
 pub returns-then-b-q : goal.returns-then-b-q
-returns-then-b-q c = spells_as (doubled_quote _ _ c.if-b-q.true) (record { spells = refl; sized = refl })
+unfolding doubled choose◌then◌else◌
+returns-then-b-q c = grind (arith, tests)
 
 pub returns : goal.returns
-returns c = spells_as (doubled_itself _ _ c.if-b-q.false) c.verbatim_byte.ensures
+unfolding doubled choose◌then◌else◌
+returns c = grind (arith, tests)

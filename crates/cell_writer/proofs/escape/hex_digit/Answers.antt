@@ -7,6 +7,6 @@ pub returns-then-n-le9 : goal.returns-then-n-le9
 unfolding choose◌then◌else◌
 returns-then-n-le9 c = search tests
 
-pub returns : goal.returns
+pub returns-else-n-le9 : goal.returns-else-n-le9
 unfolding choose◌then◌else◌
-returns c = search tests
+returns-else-n-le9 c = search tests

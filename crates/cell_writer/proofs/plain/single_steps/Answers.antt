@@ -1,10 +1,7 @@
-use mathlib.Core.Path.{refl, sym, ◌∙◌}
+use mathlib.Core.Path.{sym, ◌∙◌}
 use native.Mathlib.Omega.{arith}
 use Rattle.cell_writer.proofs.PlainSteps.{run_on, run_stops, run_ends}
 use Rattle.cell_writer.proofs.plain.single_steps.Goals as goal
-
-pub loop-i-init : goal.loop-i-init
-loop-i-init c = (c.requires, refl)
 
 pub loop-i-preserved : goal.loop-i-preserved
 loop-i-preserved c =

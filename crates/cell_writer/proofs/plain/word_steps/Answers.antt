@@ -1,13 +1,10 @@
-use mathlib.Core.Path.{◌≡◌, refl, sym, ◌∙◌}
+use mathlib.Core.Path.{◌≡◌, ◌∙◌}
 use Prim.Native.Nat.{◌<◌}
 use native.Mathlib.Omega.{arith}
 use lib.ListN.{drop}
 use Rattle.cell_writer.specs.PlainRuns.{plain_run}
 use Rattle.cell_writer.proofs.PlainSteps.{word_on, word_ends}
 use Rattle.cell_writer.proofs.plain.word_steps.Goals as goal
-
-pub loop-i-init : goal.loop-i-init
-loop-i-init c = (c.requires, refl)
 
 pub overflow_add-result : goal.overflow_add-result
 overflow_add-result c =
@@ -40,6 +37,3 @@ loop-i-preserved c =
       c.loop-i.invariant.1 ∙ word_on a.p a.q a.q a.s.now c.loop-i.i c.word.ensures
           c.unplain-flags.ensures c.if-flags-ne0.false,
     )
-
-pub returns : goal.returns
-returns c = c.single_steps.ensures ∙ sym c.loop-i.invariant.1

@@ -1,14 +1,10 @@
 use mathlib.Core.Path.{◌≡◌, sym, ap, ◌∙◌}
-use native.Mathlib.Omega.{arith}
 use Rattle.model.specs.rules.Base.{holds}
 use Rattle.model.specs.rules.Text.{special}
 use Rattle.cell_decoder.specs.FirstByte.{content_in}
 use Rattle.cell_writer.specs.Contents.{content_from}
 use Rattle.cell_writer.proofs.QuoteDecision.{special_on, special_end, special_there, special_next}
 use Rattle.cell_writer.proofs.special.holds_special.Goals as goal
-
-pub loop-i-init : goal.loop-i-init
-loop-i-init c = let a = c.args in ap (holds (special a.s)) (sym c.content_start-i.ensures)
 
 pub returns-then-raw-j : goal.returns-then-raw-j
 returns-then-raw-j c =
@@ -21,12 +17,6 @@ returns-then-raw-j c =
     let a = c.args in
     sym (passed ∙ special_end a.s a.c a.raw.now c.plain_run-j.result c.if-raw-j.true)
 
-pub unit_at-u-requires : goal.unit_at-u-requires
-unit_at-u-requires c = c.if-raw-j.false
-
-pub is_special_unit-requires : goal.is_special_unit-requires
-is_special_unit-requires c = let u = c.unit_at-u.ensures in record { size_bound = u.few; unit = u.unit }
-
 pub returns-then-is_special_unit : goal.returns-then-is_special_unit
 returns-then-is_special_unit c =
     let passed : (let a = c.args in holds (special a.s) (content_in a.c a.raw.now) ≡ holds (special a.s) (content_from a.c a.raw.now c.plain_run-j.result)) =
@@ -36,10 +26,7 @@ returns-then-is_special_unit c =
     c.quote_in-q.result c.delimiter_of-r.result
     c.quote_of-p.ensures c.quote_in-q.ensures c.delimiter_of-r.ensures c.plain_run-j.ensures in
     let a = c.args in
-    sym (passed ∙ special_there a.s c.unit_at-u.ensures (sym c.is_special_unit.ensures ∙ c.if-is_special_unit.true))
-
-pub loop-i-smaller : goal.loop-i-smaller
-loop-i-smaller c = omega (arith, c.unit_at-u.ensures.on, c.unit_at-u.ensures.inside, c.plain_run-j.ensures)
+    sym (passed ∙ special_there a.s c.unit_at-u.ensures (ap (holds (special a.s)) (sym c.as_slice.ensures.text) ∙ sym c.is_special_unit.ensures ∙ c.if-is_special_unit.true))
 
 pub loop-i-preserved : goal.loop-i-preserved
 loop-i-preserved c =
@@ -50,7 +37,7 @@ loop-i-preserved c =
     c.quote_in-q.result c.delimiter_of-r.result
     c.quote_of-p.ensures c.quote_in-q.ensures c.delimiter_of-r.ensures c.plain_run-j.ensures in
     let a = c.args in
-    passed ∙ special_next a.s c.unit_at-u.ensures (sym c.is_special_unit.ensures ∙ c.if-is_special_unit.false)
+    passed ∙ special_next a.s c.unit_at-u.ensures (ap (holds (special a.s)) (sym c.as_slice.ensures.text) ∙ sym c.is_special_unit.ensures ∙ c.if-is_special_unit.false)
 
 pub returns : goal.returns
 returns c =
