@@ -1,5 +1,5 @@
 -- The fast path over a record: the scanner's result, or fallback; and what the lists hold then.
-use Rattle.std.specs.Prelude.{ℕ, ◌+◌, ◌<◌, ◌≡◌, Bool, true, false, List, ◌++◌, length, drop, get_or}
+use Rattle.std.specs.Prelude.{ℕ, ◌+◌, ◌<◌, ◌≡◌, true, false, Option, Some, None, Ok, List, ◌++◌, length, drop, get_or}
 use Rattle.model.specs.declared.Dialect.{Dialect}
 use Rattle.model.specs.declared.FileState.{FileState}
 use Rattle.model.specs.declared.FileState.TheVariants.{Begin, Ended}
@@ -8,35 +8,31 @@ use Rattle.model.specs.rules.Dialect.{quote_of}
 use Rattle.model.specs.rules.File.{after_cell}
 use Rattle.model.specs.declared.FileState.TheVariants.{Cr}
 use Rattle.model.specs.declared.ByteRole.TheVariants.{Tail, Ends}
-use Rattle.std.specs.Prelude.{Ok}
 use Rattle.model.specs.rules.Api.{slice}
 use Rattle.model.specs.laws.Scans.{RawCell, fresh}
 use Rattle.cell_fast.specs.Ends.{CleanCell}
 use Rattle.record_scanner.specs.Parts.{Found, found_in, raw_starts, raw_ends, raw_kinds, ScanInBounds}
 use Rattle.record_scanner.specs.Stored.{stored_from}
 use Rattle.record_scanner.specs.declared.token.ScanOutcome.TheVariants as reached
-use Rattle.record_fast.specs.declared.RecordEnd.{RecordEnd}
-use Rattle.record_fast.specs.declared.RecordEnd.TheVariants as closing
-use Rattle.record_fast.specs.declared.FastScan.{FastScan}
-use Rattle.record_fast.specs.declared.FastScan.TheVariants.{Record, Fallback}
+use Rattle.record_fast.specs.declared.FastRecord.{FastRecord}
 
 -- ---- the start of a record
 
 -- where the first cell of a record starts, if the fast path takes it: here, or after the LF of a CRLF whose CR ended the record before
-pub data FirstCellAt (first : FileState) (part : Bytes) (from : ℕ) : ℕ → Type 0 where
-  here : first ≡ Begin → FirstCellAt first part from from
-  after_cr : first ≡ Ended → (get_or part from 0 is LF) ≡ false → FirstCellAt first part from from
-  after_pair : first ≡ Ended → from < length part → get_or part from 0 ≡ LF → FirstCellAt first part from (from + 1)
-  unknown : FirstCellAt first part from (length part)
+pub data FirstCellAt (first : FileState) (part : Bytes) (from : ℕ) : Option ℕ → Type 0 where
+  here : first ≡ Begin → FirstCellAt first part from (Some from)
+  after_cr : first ≡ Ended → (get_or part from 0 is LF) ≡ false → FirstCellAt first part from (Some from)
+  after_pair : first ≡ Ended → from < length part → get_or part from 0 ≡ LF → FirstCellAt first part from (Some (from + 1))
+  unknown : FirstCellAt first part from None
 
 -- ---- the end of a record
 
 -- what ends a record after its last cell, if it is found: one byte, or CR and LF
-pub data RecordEndSound (d : Dialect) (part : Bytes) (e stop : ℕ) : RecordEnd → Type 0 where
-  at_once : {f : FileState} → after_cell d true (get_or part e 0) ≡ Ok (f, Ends true) → RecordEndSound d part e stop (closing.After f (e + 1))
+pub data RecordEndSound (d : Dialect) (part : Bytes) (e stop : ℕ) : Option (FileState × ℕ) → Type 0 where
+  at_once : {f : FileState} → after_cell d true (get_or part e 0) ≡ Ok (f, Ends true) → RecordEndSound d part e stop (Some (f, e + 1))
   by_pair : e + 1 < stop → after_cell d true (get_or part e 0) ≡ Ok (Cr, Tail true) → get_or part (e + 1) 0 ≡ LF
-      → RecordEndSound d part e stop (closing.After Begin (e + 2))
-  nowhere : RecordEndSound d part e stop closing.Fallback
+      → RecordEndSound d part e stop (Some (Begin, e + 2))
+  nowhere : RecordEndSound d part e stop None
 
 -- ---- records
 
@@ -55,15 +51,15 @@ pub record Clean (d : Dialect) (part : Bytes) (room base n : ℕ) (starts ends :
   pub quotes : quote_of d ≡ QUOTE
   pub each : (k : ℕ) → k < n → base + k < room → CleanCell d (slice part (get_or starts (base + k) 0) (get_or ends (base + k) 0))
 
--- soundness of the fast path: a record that is found is the scanner's. On fallback its first cells may be in the lists
+-- soundness of the fast path: a record that is found is the scanner's. On fallback (`None`) its first cells may be in the lists
 pub data FastScanSound (d : Dialect) (limit : ℕ) (part : Bytes) (from : ℕ) (f : FileState) (room base : ℕ)
-    (starts₀ ends₀ kinds₀ starts ends kinds : List ℕ) : FastScan → Type 0 where
+    (starts₀ ends₀ kinds₀ starts ends kinds : List ℕ) : Option FastRecord → Type 0 where
   is_found :
-      {start cells next : ℕ} {g : FileState} {clean : Bool} (cs : List RawCell) →
-      next_found d limit part from f ≡ record { answer = reached.Completed start cells g next; cells = cs } →
-      ScanInBounds (length part) from limit base (reached.Completed start cells g next) → StoredCells d room base cs starts₀ ends₀ kinds₀ starts ends kinds →
-      (clean ≡ true → Clean d part room base cells starts ends) → FastScanSound d limit part from f room base starts₀ ends₀ kinds₀ starts
-      ends kinds (Record start cells g next clean)
+      {r : FastRecord} (cs : List RawCell) →
+      next_found d limit part from f ≡ record { answer = reached.Completed r.start r.cells r.state r.next; cells = cs } →
+      ScanInBounds (length part) from limit base (reached.Completed r.start r.cells r.state r.next) →
+      StoredCells d room base cs starts₀ ends₀ kinds₀ starts ends kinds → (r.clean ≡ true → Clean d part room base r.cells starts ends) →
+      FastScanSound d limit part from f room base starts₀ ends₀ kinds₀ starts ends kinds (Some r)
   is_fallback :
       (cs more : List RawCell) → (next_found d limit part from f).cells ≡ cs ++ more → StoredCells d room base cs starts₀ ends₀ kinds₀ starts ends kinds →
-      FastScanSound d limit part from f room base starts₀ ends₀ kinds₀ starts ends kinds Fallback
+      FastScanSound d limit part from f room base starts₀ ends₀ kinds₀ starts ends kinds None
