@@ -35,16 +35,12 @@ fn closes(d: Dialect, q: u8, s: &[u8], i: usize, stop: usize) -> bool
     requires { (i < stop) × (stop ≤ length s.now) × (q ≡ quote_of d) }
     ensures { result ≡ true → Closes d s.now stop i }
 {
-    if s[i] != q {
-        return false;
-    }
-    if stop - i < 2 {
+    if s[i] != q || stop - i < 2 {
         return false;
     }
     match d {
         Dialect::Csvj => true,
-        Dialect::Tdif => s[i + 1] != q,
-        Dialect::CsvPlus(_) => s[i + 1] != q,
+        Dialect::Tdif | Dialect::CsvPlus(_) => s[i + 1] != q,
     }
 }
 
@@ -53,15 +49,12 @@ fn quoted_rest_end(d: Dialect, q: u8, s: &[u8], from: usize, stop: usize) -> Fou
     requires { (from ≤ stop) × (stop ≤ length s.now) × (q ≡ quote_of d) }
     ensures { (at : ℕ) → at < stop → get_or s.now at 0 ≡ q → PassRun (clean_ascii q q) s.now (at + 1) stop from → CellEndSound d s.now at stop result.at result.clean }
 {
-    let inside = text::quoted_text(d, s, from, stop, q);
-    let i = inside.end;
-    if i < stop {
-        if closes(d, q, s, i, stop) {
-            return FoundEnd {
-                at: i + 1,
-                clean: inside.clean,
-            };
-        }
+    let text = text::quoted_text(d, s, from, stop, q);
+    if text.end < stop && closes(d, q, s, text.end, stop) {
+        return FoundEnd {
+            at: text.end + 1,
+            clean: text.clean,
+        };
     }
     FoundEnd {
         at: stop,
@@ -74,19 +67,15 @@ fn quoted_end(d: Dialect, q: u8, s: &[u8], at: usize, stop: usize) -> FoundEnd
     requires { (at < stop) × (stop ≤ length s.now) × (q ≡ quote_of d) × (get_or s.now at 0 ≡ q) }
     ensures { CellEndSound d s.now at stop result.at result.clean }
 {
-    let from = runs::clean_words(s, at + 1, stop, q);
-    if 8 <= stop - from {
-        let w = swar::word(s, from);
-        let n = swar::guess(w, q);
-        if n < 8 {
-            if n == swar::before_flag(swar::unclean(w, q, q)) {
-                if closes(d, q, s, from + n, stop) {
-                    return FoundEnd {
-                        at: from + n + 1,
-                        clean: true,
-                    };
-                }
-            }
+    let words = runs::clean_words(s, at + 1, stop, q, q);
+    let from = words.end;
+    if let Some(clean) = words.rest {
+        let n = swar::guess(swar::word(s, from), q);
+        if n == clean && closes(d, q, s, from + n, stop) {
+            return FoundEnd {
+                at: from + n + 1,
+                clean: true,
+            };
         }
     }
     quoted_rest_end(d, q, s, from, stop)
@@ -96,13 +85,7 @@ fn quoted_end(d: Dialect, q: u8, s: &[u8], at: usize, stop: usize) -> FoundEnd
 fn is_end(b: u8, p: u8) -> bool
     ensures { result ≡ is_end p b }
 {
-    if b == p {
-        return true;
-    }
-    if b == 0x0A {
-        return true;
-    }
-    b == 0x0D
+    b == p || matches!(b, b'\n' | b'\r')
 }
 
 // The end of the unquoted cell of CSV+ at `at`, by runs and characters.
@@ -111,10 +94,8 @@ fn plain_rest_end(s: &[u8], at: usize, stop: usize, p: u8, q: u8) -> FoundEnd
     ensures { (d : TheDialect) → may_be_empty d ≡ true → p ≡ delimiter_of d → q ≡ quote_of d → CellEndSound d s.now at stop result.at result.clean }
 {
     let i = text::plain_text(s, at, stop, p, q);
-    if i < stop {
-        if is_end(s[i], p) {
-            return FoundEnd { at: i, clean: true };
-        }
+    if i < stop && is_end(s[i], p) {
+        return FoundEnd { at: i, clean: true };
     }
     FoundEnd {
         at: stop,
@@ -130,15 +111,11 @@ fn plain_end(s: &[u8], at: usize, stop: usize, p: u8, q: u8) -> FoundEnd
     if 8 <= stop - at {
         let w = swar::word(s, at);
         let n = swar::guess(w, p);
-        if n < 8 {
-            if s[at + n] == p {
-                if n == swar::before_flag(swar::unclean(w, p, q)) {
-                    return FoundEnd {
-                        at: at + n,
-                        clean: true,
-                    };
-                }
-            }
+        if n < 8 && s[at + n] == p && n == swar::before_flag(swar::unclean(w, p, q)) {
+            return FoundEnd {
+                at: at + n,
+                clean: true,
+            };
         }
     }
     plain_rest_end(s, at, stop, p, q)
@@ -151,7 +128,7 @@ pub fn cell_end(d: Dialect, p: u8, q: u8, s: &[u8], at: usize, stop: usize) -> F
 {
     match d {
         Dialect::Csvj => {
-            if s[at] != 0x22 {
+            if s[at] != b'"' {
                 return FoundEnd {
                     at: value::value_end(s, at, stop),
                     clean: false,
@@ -159,7 +136,7 @@ pub fn cell_end(d: Dialect, p: u8, q: u8, s: &[u8], at: usize, stop: usize) -> F
             }
         }
         Dialect::Tdif => {
-            if s[at] != 0x22 {
+            if s[at] != b'"' {
                 return FoundEnd {
                     at: value::null_end(s, at, stop),
                     clean: false,

@@ -16,22 +16,13 @@ fn long_escape_end(s: &[u8], i: usize, stop: usize) -> usize
     requires { (i < stop) × (stop ≤ length s.now) × (get_or s.now i 0 ≡ 0x5C) }
     ensures { InQuotes Csvj s.now stop i result }
 {
-    if stop - i < 6 {
-        return i;
-    }
-    if s[i + 1] != 0x75 {
-        return i;
-    }
-    if !cell_lexer::values::is_hex(s[i + 2]) {
-        return i;
-    }
-    if !cell_lexer::values::is_hex(s[i + 3]) {
-        return i;
-    }
-    if !cell_lexer::values::is_hex(s[i + 4]) {
-        return i;
-    }
-    if !cell_lexer::values::is_hex(s[i + 5]) {
+    if stop - i < 6
+        || s[i + 1] != b'u'
+        || !cell_lexer::values::is_hex(s[i + 2])
+        || !cell_lexer::values::is_hex(s[i + 3])
+        || !cell_lexer::values::is_hex(s[i + 4])
+        || !cell_lexer::values::is_hex(s[i + 5])
+    {
         return i;
     }
     i + 6

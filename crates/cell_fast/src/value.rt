@@ -50,10 +50,7 @@ fn fraction_end(s: &[u8], at: usize, stop: usize) -> usize
 fn is_letter_e(b: u8) -> bool
     ensures { result ≡ is_letter_e b }
 {
-    if b == 0x65 {
-        return true;
-    }
-    b == 0x45
+    matches!(b, b'e' | b'E')
 }
 
 // The end of a number whose digits begin at `at`.

@@ -8,6 +8,6 @@ pub returns : goal.returns
 returns c =
     long_escape c.args.s.now c.args.stop c.args.i c.requires.1 (omega arith) c.requires.2 c.if-s-i-ne117.false
     (sym c.is_hex.ensures ∙ c.if-not-is_hex.false)
-    (sym c.is_hex-2.ensures ∙ c.if-not-is_hex-2.false)
-    (sym c.is_hex-3.ensures ∙ c.if-not-is_hex-3.false)
-    (sym c.is_hex-4.ensures ∙ c.if-not-is_hex-4.false)
+    (sym c.is_hex-else-not-is_hex.ensures ∙ c.if-not-is_hex-2.false)
+    (sym c.is_hex-else-not-is_hex-2.ensures ∙ c.if-not-is_hex-3.false)
+    (sym c.is_hex-else-not-is_hex-3.ensures ∙ c.if-not-is_hex-4.false)
