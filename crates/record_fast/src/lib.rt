@@ -117,12 +117,9 @@ pub fn scan(
     let mut at = start;
     let mut n: usize = 0;
     while at < stop {
-        let x = cell_fast::cell_end(d, p, q, part, at, stop);
-        let e = x.at;
-        if stop <= e {
-            return None;
-        }
-        clean &= x.clean;
+        let found = cell_fast::cell_end(d, p, q, part, at, stop)?;
+        let e = found.at;
+        clean &= found.clean;
         if part[e] != p {
             let (state, next) = record_end_at(d, part, e, stop)?;
             store::store_cell(true, d, part, at, e, room, base + n, starts, ends, kinds);

@@ -22,42 +22,40 @@ loop-at-init c =
     (record { inside = omega arith; under = omega arith; short = omega arith }) (begins_on _ _ _ _ c.in_ok-start.ensures pre.from_in_bounds.0)
     (omega arith) (omega arith) (omega arith) λ z. sym c.quote_of-q.ensures ∙ eqb-true _ _ z
 
-pub returns-then-stop-e : goal.returns-then-stop-e
-returns-then-stop-e c = odd _ _ _ _ _ _ _ _ _ _ _ c.loop-at.invariant _ c.in_ok-start.ensures
+pub returns-in_err-found : goal.returns-in_err-found
+returns-in_err-found c = rw c.from_residual-in_err-found.ensures (odd _ _ _ _ _ _ _ _ _ _ _ c.loop-at.invariant _ c.in_ok-start.ensures)
 
 pub returns-in_err-state : goal.returns-in_err-state
 returns-in_err-state c = rw c.from_residual-in_err-state.ensures (odd _ _ _ _ _ _ _ _ _ _ _ c.loop-at.invariant _ c.in_ok-start.ensures)
 
 pub store_cell-requires-clause-opened_le_i : goal.store_cell-requires-clause-opened_le_i
 store_cell-requires-clause-opened_le_i c =
-    let found = cell_lies_in _ _ _ _ _ _ _ _ _ _ _ c.loop-at.invariant c.loop-at-test.true (c.cell_end-x.ensures.ends c.if-stop-e.false) _ c.in_ok-start.ensures in
+    let found = cell_lies_in _ _ _ _ _ _ _ _ _ _ _ c.loop-at.invariant c.loop-at-test.true c.in_ok-found.ensures.ends _ c.in_ok-start.ensures in
     (found.0, omega arith)
 
 pub returns-then-part-e : goal.returns-then-part-e
 returns-then-part-e c =
-    let ends_at = c.cell_end-x.ensures.ends c.if-stop-e.false in
-    let found = cell_lies_in _ _ _ _ _ _ _ _ _ _ _ c.loop-at.invariant c.loop-at-test.true ends_at _ c.in_ok-start.ensures in
+    let found = cell_lies_in _ _ _ _ _ _ _ _ _ _ _ c.loop-at.invariant c.loop-at-test.true c.in_ok-found.ensures.ends _ c.in_ok-start.ensures in
     let stores = c.store_cell.ensures in
-    last_cell_lem _ _ _ _ _ _ _ _ _ _ _ c.loop-at.invariant c.loop-at-test.true ends_at found.0 c.if-stop-e.false c.in_ok-state.ensures
-    (c.cell_end-x.ensures.content c.if-stop-e.false) (record { put = (stores.starts_after, (stores.ends_after, stores.kinds_after)) }) _ c.in_ok-start.ensures
+    last_cell_lem _ _ _ _ _ _ _ _ _ _ _ c.loop-at.invariant c.loop-at-test.true c.in_ok-found.ensures.ends found.0 c.in_ok-found.ensures.before c.in_ok-state.ensures
+    c.in_ok-found.ensures.content (record { put = (stores.starts_after, (stores.ends_after, stores.kinds_after)) }) _ c.in_ok-start.ensures
 
 pub store_cell-requires-in-loop-at-clause-opened_le_i : goal.store_cell-requires-in-loop-at-clause-opened_le_i
 store_cell-requires-in-loop-at-clause-opened_le_i c =
-    let found = cell_lies_in _ _ _ _ _ _ _ _ _ _ _ c.loop-at.invariant c.loop-at-test.true (c.cell_end-x.ensures.ends c.if-stop-e.false) _ c.in_ok-start.ensures in
+    let found = cell_lies_in _ _ _ _ _ _ _ _ _ _ _ c.loop-at.invariant c.loop-at-test.true c.in_ok-found.ensures.ends _ c.in_ok-start.ensures in
     (found.0, omega arith)
 
 pub loop-at-smaller : goal.loop-at-smaller
 loop-at-smaller c =
-    let found = cell_lies_in _ _ _ _ _ _ _ _ _ _ _ c.loop-at.invariant c.loop-at-test.true (c.cell_end-x.ensures.ends c.if-stop-e.false) _ c.in_ok-start.ensures in
+    let found = cell_lies_in _ _ _ _ _ _ _ _ _ _ _ c.loop-at.invariant c.loop-at-test.true c.in_ok-found.ensures.ends _ c.in_ok-start.ensures in
     omega arith
 
 pub loop-at-preserved : goal.loop-at-preserved
 loop-at-preserved c =
-    let ends_at = c.cell_end-x.ensures.ends c.if-stop-e.false in
-    let found = cell_lies_in _ _ _ _ _ _ _ _ _ _ _ c.loop-at.invariant c.loop-at-test.true ends_at _ c.in_ok-start.ensures in
+    let found = cell_lies_in _ _ _ _ _ _ _ _ _ _ _ c.loop-at.invariant c.loop-at-test.true c.in_ok-found.ensures.ends _ c.in_ok-start.ensures in
     let stores = c.store_cell-in-loop-at.ensures in
-    next_cell_lem _ _ _ _ _ _ _ _ _ _ _ c.loop-at.invariant c.loop-at-test.true ends_at c.if-stop-e.false
-    (c.if-part-e.false ∙ c.delimiter_of-p.ensures) (c.cell_end-x.ensures.content c.if-stop-e.false)
+    next_cell_lem _ _ _ _ _ _ _ _ _ _ _ c.loop-at.invariant c.loop-at-test.true c.in_ok-found.ensures.ends c.in_ok-found.ensures.before
+    (c.if-part-e.false ∙ c.delimiter_of-p.ensures) c.in_ok-found.ensures.content
     (record { put = (stores.starts_after, (stores.ends_after, stores.kinds_after)) }) found.0
 
 pub returns : goal.returns
