@@ -25,7 +25,7 @@ use Rattle.utf8.specs.Multibyte.{chars_from}
 use Rattle.utf8.proofs.MultibyteRuns.{part_join}
 use Rattle.cell_scanner.specs.Run.{cell_run}
 use Rattle.cell_scanner.proofs.Runs.{rest_more, rest_stops}
-use Rattle.cell_fast.specs.Ends.{EndsFrom, CellEndSound}
+use Rattle.cell_fast.specs.Ends.{EndsFrom, EndsBefore, FoundSound}
 use Rattle.cell_fast.specs.TextRuns.{TextRun}
 use Rattle.cell_fast.specs.CellOutcome.{Results}
 
@@ -55,12 +55,9 @@ results_ends x y = record { cell = y.cell; ran = x.rest ∙ y.ran }
 
 -- ---- the result of the fast path
 
-pub untold : (d : Dialect) (s : Bytes) (at stop : ℕ) (clean : Bool) → CellEndSound d s at stop stop clean
-untold d s at stop clean = record { ends = λ h. absurd (omega arith); content = λ h _. absurd (omega arith) }
-
 -- for a cell that is not verbatim
-pub value_found : {d : Dialect} {s : Bytes} {at stop end : ℕ} → (end < stop → EndsFrom d s stop Fresh at end) → CellEndSound d s at stop end false
-value_found f = record { ends = f; content = λ h e. impossible e }
+pub value_found : {d : Dialect} {s : Bytes} {at stop end : ℕ} → EndsBefore d s stop Fresh at end → FoundSound d s at stop (record { at = end; clean = false })
+value_found x = record { before = x.before; ends = x.ends; content = λ e. impossible e }
 
 -- ---- bytes that lead from one cell state to another by the UTF-8 state of a text
 

@@ -23,7 +23,7 @@ use Rattle.model.specs.rules.Cell.{may_be_empty, first_byte, plain_byte, cell_st
 use Rattle.model.proofs.Tests.{impossible}
 use Rattle.cell_scanner.specs.declared.CellEnd.TheVariants.{Stopped}
 use Rattle.cell_scanner.proofs.Runs.{rest_more, rest_stops, rest_refused}
-use Rattle.cell_fast.specs.Ends.{bare, EndsFrom, CellEndSound}
+use Rattle.cell_fast.specs.Ends.{bare, EndsFrom, FoundSound}
 use Rattle.cell_fast.specs.TextRuns.{TextRun, is_open}
 use Rattle.cell_fast.specs.CellOutcome.{is_end}
 use Rattle.cell_fast.proofs.CellOutcomes.{ends_here}
@@ -78,8 +78,8 @@ end_stops d b m e = rw (end_no_quote d b m e, go (b is delimiter_of d) (b is LF)
     go false false false f = impossible f
 
 pub plain_found : (d : Dialect) {s : Bytes} {at stop i : ℕ} → may_be_empty d ≡ true → at < stop → stop ≤ length s → ¬ (get_or s at 0 ≡ quote_of d)
-    → TextRun (is_open (delimiter_of d) (quote_of d)) s at stop i → i < stop → is_end (delimiter_of d) (get_or s i 0) ≡ true → CellEndSound d s at stop i true
+    → TextRun (is_open (delimiter_of d) (quote_of d)) s at stop i → i < stop → is_end (delimiter_of d) (get_or s i 0) ≡ true → FoundSound d s at stop (record { at = i; clean = true })
 plain_found d {s} {at} {stop} {i} m h k n x l e =
     let plain = ends_here (plain_results d x k) l k (end_stops d (get_or s i 0) m e) in
     let whole = same_end Fresh (Plain Whole) h k (first_same d (get_or s at 0) m n) plain in
-    record { ends = λ _. whole; content = λ _ _. bare m (text_clean (delimiter_of d) (quote_of d) x).each }
+    record { before = l; ends = whole; content = λ _. bare m (text_clean (delimiter_of d) (quote_of d) x).each }

@@ -21,7 +21,7 @@ use Rattle.model.proofs.Tests.{impossible}
 use Rattle.model.proofs.cell_laws.Utf8.{ascii_whole}
 use Rattle.utf8.proofs.MultibyteRuns.{part_join}
 use Rattle.cell_scanner.proofs.Runs.{part_next}
-use Rattle.cell_fast.specs.Ends.{quoted, CellEndSound}
+use Rattle.cell_fast.specs.Ends.{quoted, FoundSound}
 use Rattle.cell_fast.specs.CellOutcome.{InQuotes, QuotedText, Closes}
 use Rattle.cell_fast.proofs.PassRuns.{one_byte}
 use Rattle.cell_fast.proofs.CellOutcomes.{results_none, comes_byte, results_ends, ends_here}
@@ -127,7 +127,7 @@ module _ (s : Bytes) (stop i : ℕ) (k : stop ≤ length s) where
 
 -- the whole cell
 pub quoted_found : {d : Dialect} {s : Bytes} {at stop i : ℕ} {clean : Bool} → at < stop → stop ≤ length s → get_or s at 0 ≡ quote_of d
-    → QuotedText d s stop (at + 1) i clean → Closes d s stop i → CellEndSound d s at stop (i + 1) clean
+    → QuotedText d s stop (at + 1) i clean → Closes d s stop i → FoundSound d s at stop (record { at = i + 1; clean = clean })
 quoted_found {d} {s} {at} {stop} {i} {clean} h k e x y =
     let first = comes_byte (results_none d s stop Fresh at (omega arith)) h k (Quoted Whole) (at + 1) refl (opening d (get_or s at 0) e) in
     let whole = results_ends first (results_ends x.comes y.ends) in
@@ -138,4 +138,4 @@ quoted_found {d} {s} {at} {stop} {i} {clean} h k e x y =
     part_join s (at + 1) i (i + 1) l (omega arith) ∙ ap (λ (r : Bytes). slice s (at + 1) i ++ r) last in
     let cut : slice s at (i + 1) ≡ quote_of d ∷ (slice s (at + 1) i ++ (quote_of d ∷ [])) =
     part_next s at (i + 1) (omega arith) (omega arith) ∙ λ j. e j ∷ inside j in
-    record { ends = λ _. whole; content = λ _ c. rw cut (quoted (slice s (at + 1) i) (x.content c)) }
+    record { before = m; ends = whole; content = λ c. rw cut (quoted (slice s (at + 1) i) (x.content c)) }

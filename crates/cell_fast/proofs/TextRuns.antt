@@ -132,14 +132,15 @@ plain_results d x k = text_comes d Plain (is_open (delimiter_of d) (quote_of d))
 
 -- ---- what stops a run inside quotes and is part of the text
 
-pub wide_passed : (d : Dialect) {s : Bytes} {at stop r : ℕ} → stop ≤ length s → WideRun s at stop r → Passed d s stop at r
-wide_passed d k x =
+pub wide_passed : (d : Dialect) {s : Bytes} {at stop r : ℕ} → stop ≤ length s → WideRun s at stop r → ¬ (r ≡ at) → Passed d s stop at r
+wide_passed d {at = at} {r = r} k x n =
+    let f : at ≤ r = x.from in
     let q : quote_of d ≤ 0x7F = quote_ascii d in
     let clean = text_clean (quote_of d) (quote_of d) (wide_text (quote_of d) (quote_of d) (omega arith) (omega arith) x) in
-    record { comes = quoted_results d clean k; clean = λ _. clean.each }
+    record { on = omega arith; comes = quoted_results d clean k; clean = λ _. clean.each }
 
-pub ascii_passed : {d : Dialect} {s : Bytes} {at stop r : ℕ} → get_or s at 0 < 0x80 → InQuotes d s stop at r → Passed d s stop at r
-ascii_passed h x = record { comes = x; clean = λ l. absurd (omega arith) }
+pub ascii_passed : {d : Dialect} {s : Bytes} {at stop r : ℕ} → get_or s at 0 < 0x80 → at < r → InQuotes d s stop at r → Passed d s stop at r
+ascii_passed h l x = record { on = l; comes = x; clean = λ l. absurd (omega arith) }
 
 -- ---- the text inside quotes
 

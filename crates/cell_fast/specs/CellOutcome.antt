@@ -23,6 +23,7 @@ InQuotes d s stop at r = Results d s stop (Quoted Whole) at (Quoted Whole) r
 
 -- what stops a run inside quotes is part of the text up to r; non-ASCII characters are clean
 pub record Passed (d : Dialect) (s : Bytes) (stop at r : ℕ) : Type 0 where
+  pub on : at < r
   pub comes : InQuotes d s stop at r
   pub clean : 0x80 ≤ get_or s at 0 → all_pass (is_clean (quote_of d)) (slice s at r) ≡ true
 

@@ -1,5 +1,5 @@
 // The fast path to the end of a cell, by whole runs of bytes: the start of a cell goes in; its end comes out, with whether the cell is
-// verbatim, or `stop`, which is to fall back to the automaton. The contract is one-sided (`CellEndSound` of specs/Ends.antt): an end that
+// verbatim, or none, which is to fall back to the automaton. The contract is one-sided (`CellEndSound` of specs/Ends.antt): an end that
 // is found is the automaton's.
 //
 // The next cell waits for this one's end. So the end of a short cell is guessed from the delimiter or the quote alone, and the bytes
@@ -35,58 +35,44 @@ fn closes(d: Dialect, q: u8, s: &[u8], i: usize, stop: usize) -> bool
     requires { (i < stop) × (stop ≤ length s.now) × (q ≡ quote_of d) }
     ensures { result ≡ true → Closes d s.now stop i }
 {
-    if s[i] != q {
-        return false;
-    }
-    if stop - i < 2 {
+    if s[i] != q || stop - i < 2 {
         return false;
     }
     match d {
         Dialect::Csvj => true,
-        Dialect::Tdif => s[i + 1] != q,
-        Dialect::CsvPlus(_) => s[i + 1] != q,
+        Dialect::Tdif | Dialect::CsvPlus(_) => s[i + 1] != q,
     }
 }
 
 // The end of a quoted cell whose text continues at `from`.
-fn quoted_rest_end(d: Dialect, q: u8, s: &[u8], from: usize, stop: usize) -> FoundEnd
+fn quoted_rest_end(d: Dialect, q: u8, s: &[u8], from: usize, stop: usize) -> Option<FoundEnd>
     requires { (from ≤ stop) × (stop ≤ length s.now) × (q ≡ quote_of d) }
-    ensures { (at : ℕ) → at < stop → get_or s.now at 0 ≡ q → PassRun (clean_ascii q q) s.now (at + 1) stop from → CellEndSound d s.now at stop result.at result.clean }
+    ensures { (at : ℕ) → at < stop → get_or s.now at 0 ≡ q → PassRun (clean_ascii q q) s.now (at + 1) stop from → CellEndSound d s.now at stop result }
 {
-    let inside = text::quoted_text(d, s, from, stop, q);
-    let i = inside.end;
-    if i < stop {
-        if closes(d, q, s, i, stop) {
-            return FoundEnd {
-                at: i + 1,
-                clean: inside.clean,
-            };
-        }
+    let text = text::quoted_text(d, s, from, stop, q);
+    if text.end < stop && closes(d, q, s, text.end, stop) {
+        return Some(FoundEnd {
+            at: text.end + 1,
+            clean: text.clean,
+        });
     }
-    FoundEnd {
-        at: stop,
-        clean: false,
-    }
+    None
 }
 
 // The end of the quoted cell at `at`; first by a guess, the next quote.
-fn quoted_end(d: Dialect, q: u8, s: &[u8], at: usize, stop: usize) -> FoundEnd
+fn quoted_end(d: Dialect, q: u8, s: &[u8], at: usize, stop: usize) -> Option<FoundEnd>
     requires { (at < stop) × (stop ≤ length s.now) × (q ≡ quote_of d) × (get_or s.now at 0 ≡ q) }
-    ensures { CellEndSound d s.now at stop result.at result.clean }
+    ensures { CellEndSound d s.now at stop result }
 {
-    let from = runs::clean_words(s, at + 1, stop, q);
-    if 8 <= stop - from {
-        let w = swar::word(s, from);
-        let n = swar::guess(w, q);
-        if n < 8 {
-            if n == swar::before_flag(swar::unclean(w, q, q)) {
-                if closes(d, q, s, from + n, stop) {
-                    return FoundEnd {
-                        at: from + n + 1,
-                        clean: true,
-                    };
-                }
-            }
+    let words = runs::clean_words(s, at + 1, stop, q, q);
+    let from = words.end;
+    if let Some(clean) = words.rest {
+        let n = swar::guess(swar::word(s, from), q);
+        if n == clean && closes(d, q, s, from + n, stop) {
+            return Some(FoundEnd {
+                at: from + n + 1,
+                clean: true,
+            });
         }
     }
     quoted_rest_end(d, q, s, from, stop)
@@ -96,81 +82,56 @@ fn quoted_end(d: Dialect, q: u8, s: &[u8], at: usize, stop: usize) -> FoundEnd
 fn is_end(b: u8, p: u8) -> bool
     ensures { result ≡ is_end p b }
 {
-    if b == p {
-        return true;
-    }
-    if b == 0x0A {
-        return true;
-    }
-    b == 0x0D
+    b == p || matches!(b, b'\n' | b'\r')
 }
 
 // The end of the unquoted cell of CSV+ at `at`, by runs and characters.
-fn plain_rest_end(s: &[u8], at: usize, stop: usize, p: u8, q: u8) -> FoundEnd
+fn plain_rest_end(s: &[u8], at: usize, stop: usize, p: u8, q: u8) -> Option<FoundEnd>
     requires { (at < stop) × (stop ≤ length s.now) × (p < 0x80) × (q < 0x80) × (get_or s.now at 0 ≡ q → ⊥) }
-    ensures { (d : TheDialect) → may_be_empty d ≡ true → p ≡ delimiter_of d → q ≡ quote_of d → CellEndSound d s.now at stop result.at result.clean }
+    ensures { (d : TheDialect) → may_be_empty d ≡ true → p ≡ delimiter_of d → q ≡ quote_of d → CellEndSound d s.now at stop result }
 {
     let i = text::plain_text(s, at, stop, p, q);
-    if i < stop {
-        if is_end(s[i], p) {
-            return FoundEnd { at: i, clean: true };
-        }
+    if i < stop && is_end(s[i], p) {
+        return Some(FoundEnd { at: i, clean: true });
     }
-    FoundEnd {
-        at: stop,
-        clean: false,
-    }
+    None
 }
 
 // The end of the unquoted cell of CSV+ at `at`; first by a guess, the next delimiter.
-fn plain_end(s: &[u8], at: usize, stop: usize, p: u8, q: u8) -> FoundEnd
+fn plain_end(s: &[u8], at: usize, stop: usize, p: u8, q: u8) -> Option<FoundEnd>
     requires { (at < stop) × (stop ≤ length s.now) × (p < 0x80) × (q < 0x80) × (get_or s.now at 0 ≡ q → ⊥) }
-    ensures { (d : TheDialect) → may_be_empty d ≡ true → p ≡ delimiter_of d → q ≡ quote_of d → CellEndSound d s.now at stop result.at result.clean }
+    ensures { (d : TheDialect) → may_be_empty d ≡ true → p ≡ delimiter_of d → q ≡ quote_of d → CellEndSound d s.now at stop result }
 {
     if 8 <= stop - at {
         let w = swar::word(s, at);
         let n = swar::guess(w, p);
-        if n < 8 {
-            if s[at + n] == p {
-                if n == swar::before_flag(swar::unclean(w, p, q)) {
-                    return FoundEnd {
-                        at: at + n,
-                        clean: true,
-                    };
-                }
-            }
+        if n < 8 && s[at + n] == p && n == swar::before_flag(swar::unclean(w, p, q)) {
+            return Some(FoundEnd {
+                at: at + n,
+                clean: true,
+            });
         }
     }
     plain_rest_end(s, at, stop, p, q)
 }
 
-// The end of the cell at `at`; `stop` means fallback. p is the dialect's delimiter, q its quote.
-pub fn cell_end(d: Dialect, p: u8, q: u8, s: &[u8], at: usize, stop: usize) -> FoundEnd
+// The end of the cell at `at`. p is the dialect's delimiter, q its quote.
+pub fn cell_end(d: Dialect, p: u8, q: u8, s: &[u8], at: usize, stop: usize) -> Option<FoundEnd>
     requires { (at < stop) × (stop ≤ length s.now) × (p ≡ delimiter_of d) × (q ≡ quote_of d) }
-    ensures { CellEndSound d s.now at stop result.at result.clean }
+    ensures { CellEndSound d s.now at stop result }
 {
-    match d {
-        Dialect::Csvj => {
-            if s[at] != 0x22 {
-                return FoundEnd {
-                    at: value::value_end(s, at, stop),
-                    clean: false,
-                };
-            }
-        }
-        Dialect::Tdif => {
-            if s[at] != 0x22 {
-                return FoundEnd {
-                    at: value::null_end(s, at, stop),
-                    clean: false,
-                };
-            }
-        }
-        Dialect::CsvPlus(_) => {
-            if s[at] != q {
-                return plain_end(s, at, stop, p, q);
-            }
-        }
+    if s[at] == q {
+        return quoted_end(d, q, s, at, stop);
     }
-    quoted_end(d, q, s, at, stop)
+    match d {
+        Dialect::Csvj => Some(FoundEnd {
+            at: value::value_end(s, at, stop)?,
+            clean: false,
+        }),
+        Dialect::Tdif => Some(FoundEnd {
+            at: value::null_end(s, at, stop)?,
+            clean: false,
+        }),
+        Dialect::CsvPlus(_) => plain_end(s, at, stop, p, q),
+    }
 }

@@ -1,51 +1,53 @@
 // Runs of clean ASCII, eight bytes to a step: a slice, an offset and the stops go in, the end of the run comes out (`PassRun` of
 // specs/TextRuns.antt). Inside quotes both stops are the quote, and outside they are the delimiter and the quote; the compiler inlines the
-// run at both call sites.
-ghost use Rattle.std.specs.Prelude.{◌≤◌, length};
+// run at each call site.
+ghost use Rattle.std.specs.Prelude.{IfSome, ◌+◌, ◌≤◌, ◌<◌, length};
 ghost use Rattle.swar.specs.Words.{clean_ascii};
 ghost use Rattle.cell_fast.specs.TextRuns.{PassRun};
+
+// Clean ASCII by whole words.
+#[derive(Clone, Copy)]
+pub struct CleanWords {
+    // The end of the clean words.
+    pub end: usize,
+    // The number of clean bytes in the next word, if eight bytes are left.
+    pub rest: Option<usize>,
+}
 
 // The end of the clean ASCII from `at` other than p and q, a byte at a time.
 fn single_steps(s: &[u8], at: usize, stop: usize, p: u8, q: u8) -> usize
     requires { (at ≤ stop) × (stop ≤ length s.now) }
     ensures { PassRun (clean_ascii p q) s.now at stop result }
 {
-    let mut i = at;
-    while i < stop {
+    for i in at..stop {
         let b = s[i];
-        if b < 0x20 {
+        if b < 0x20 || 0x7F < b || b == b'\\' || b == p || b == q {
             return i;
         }
-        if 0x7F < b {
-            return i;
-        }
-        if b == 0x5C {
-            return i;
-        }
-        if b == p {
-            return i;
-        }
-        if b == q {
-            return i;
-        }
-        i += 1;
     }
-    i
+    stop
 }
 
-// The end of the clean ASCII inside quotes, by whole words alone.
-pub fn clean_words(s: &[u8], at: usize, stop: usize, q: u8) -> usize
+// The clean ASCII from `at` other than p and q, by whole words alone. The hint keeps the loop inside its callers, or the result would go
+// through memory.
+#[inline(always)]
+pub fn clean_words(s: &[u8], at: usize, stop: usize, p: u8, q: u8) -> CleanWords
     requires { (at ≤ stop) × (stop ≤ length s.now) }
-    ensures { PassRun (clean_ascii q q) s.now at stop result }
+    ensures words { PassRun (clean_ascii p q) s.now at stop result.end }
+    ensures more { IfSome result.rest (λ n. (n < 8) × (result.end + 8 ≤ stop) × PassRun (clean_ascii p q) s.now at stop (result.end + n)) }
 {
     let mut i = at;
     while 8 <= stop - i {
-        if swar::unclean(swar::word(s, i), q, q) != 0 {
-            return i;
+        let flags = swar::unclean(swar::word(s, i), p, q);
+        if flags != 0 {
+            return CleanWords {
+                end: i,
+                rest: Some(swar::before_flag(flags)),
+            };
         }
         i += 8;
     }
-    i
+    CleanWords { end: i, rest: None }
 }
 
 // The end of the clean ASCII from `at` other than p and q.
@@ -53,13 +55,9 @@ pub fn clean_run(s: &[u8], at: usize, stop: usize, p: u8, q: u8) -> usize
     requires { (at ≤ stop) × (stop ≤ length s.now) }
     ensures { PassRun (clean_ascii p q) s.now at stop result }
 {
-    let mut i = at;
-    while 8 <= stop - i {
-        let flags = swar::unclean(swar::word(s, i), p, q);
-        if flags != 0 {
-            return i + swar::before_flag(flags);
-        }
-        i += 8;
+    let words = clean_words(s, at, stop, p, q);
+    match words.rest {
+        Some(n) => words.end + n,
+        None => single_steps(s, words.end, stop, p, q),
     }
-    single_steps(s, i, stop, p, q)
 }

@@ -1,90 +1,81 @@
 // Text inside quotes and outside: runs, and what stops a run inside quotes and is part of the text. An offset goes in, the end of the
-// text comes out; the definitions are `QuotedText` of specs/CellOutcome.antt and `TextRun` of specs/TextRuns.antt.
-ghost use Rattle.std.specs.Prelude.{◌≡◌, false, ◌≤◌, ◌<◌, length, get_or};
+// text comes out, or none; the definitions are `QuotedText` of specs/CellOutcome.antt and `TextRun` of specs/TextRuns.antt.
+ghost use Rattle.std.specs.Prelude.{◌≡◌, false, IfSome, ◌≤◌, ◌<◌, length, get_or};
 ghost use Rattle.model.specs.declared.Dialect.{Dialect as TheDialect};
 ghost use Rattle.model.specs.declared.Dialect.TheVariants.{Csvj};
 ghost use Rattle.model.specs.rules.Dialect.{quote_of, is_csvj};
 ghost use Rattle.cell_fast.specs.TextRuns.{TextRun, is_open};
-ghost use Rattle.cell_fast.specs.CellOutcome.{InQuotes, Passed, QuotedText};
+ghost use Rattle.cell_fast.specs.CellOutcome.{Passed, QuotedText};
 
 use crate::runs;
 use model::Dialect;
 use utf8::multibyte::multibyte_run;
 
-// The end of the escape with four digits whose backslash is at i; i if it is none.
-fn long_escape_end(s: &[u8], i: usize, stop: usize) -> usize
+// The end of the escape with four digits whose backslash is at i.
+fn long_escape_end(s: &[u8], i: usize, stop: usize) -> Option<usize>
     requires { (i < stop) × (stop ≤ length s.now) × (get_or s.now i 0 ≡ 0x5C) }
-    ensures { InQuotes Csvj s.now stop i result }
+    ensures { IfSome result (Passed Csvj s.now stop i) }
 {
-    if stop - i < 6 {
-        return i;
+    if stop - i < 6
+        || s[i + 1] != b'u'
+        || !cell_lexer::values::is_hex(s[i + 2])
+        || !cell_lexer::values::is_hex(s[i + 3])
+        || !cell_lexer::values::is_hex(s[i + 4])
+        || !cell_lexer::values::is_hex(s[i + 5])
+    {
+        return None;
     }
-    if s[i + 1] != 0x75 {
-        return i;
-    }
-    if !cell_lexer::values::is_hex(s[i + 2]) {
-        return i;
-    }
-    if !cell_lexer::values::is_hex(s[i + 3]) {
-        return i;
-    }
-    if !cell_lexer::values::is_hex(s[i + 4]) {
-        return i;
-    }
-    if !cell_lexer::values::is_hex(s[i + 5]) {
-        return i;
-    }
-    i + 6
+    Some(i + 6)
 }
 
-// The end of the escape whose backslash is at i; i if it is none.
-fn escape_end(s: &[u8], i: usize, stop: usize) -> usize
+// The end of the escape whose backslash is at i.
+fn escape_end(s: &[u8], i: usize, stop: usize) -> Option<usize>
     requires { (i < stop) × (stop ≤ length s.now) × (get_or s.now i 0 ≡ 0x5C) }
-    ensures { InQuotes Csvj s.now stop i result }
+    ensures { IfSome result (Passed Csvj s.now stop i) }
 {
     if stop - i < 2 {
-        return i;
+        return None;
     }
     if cell_lexer::values::is_short(s[i + 1]) {
-        return i + 2;
+        return Some(i + 2);
     }
     long_escape_end(s, i, stop)
 }
 
-// Where quotes are doubled: the end of two quotes at i, or of any other ASCII byte; i if the quote is single.
-fn doubled_end(q: u8, s: &[u8], i: usize, stop: usize) -> usize
+// Where quotes are doubled: the end of two quotes at i, or of any other ASCII byte; none if the quote is single.
+fn doubled_end(q: u8, s: &[u8], i: usize, stop: usize) -> Option<usize>
     requires { (i < stop) × (stop ≤ length s.now) × (get_or s.now i 0 < 0x80) }
-    ensures { (d : TheDialect) → is_csvj d ≡ false → q ≡ quote_of d → InQuotes d s.now stop i result }
+    ensures { (d : TheDialect) → is_csvj d ≡ false → q ≡ quote_of d → IfSome result (Passed d s.now stop i) }
 {
     if s[i] != q {
-        return i + 1;
+        return Some(i + 1);
     }
-    if stop - i < 2 {
-        return i;
+    if stop - i < 2 || s[i + 1] != q {
+        return None;
     }
-    if s[i + 1] == q {
-        return i + 2;
-    }
-    i
+    Some(i + 2)
 }
 
-// The end of what stops a run at i and is part of the text inside quotes; i if nothing is, or to fall back.
-fn pass(d: Dialect, q: u8, s: &[u8], i: usize, stop: usize) -> usize
+// The end of what stops a run at i and is part of the text inside quotes; none if nothing is, or to fall back.
+fn pass(d: Dialect, q: u8, s: &[u8], i: usize, stop: usize) -> Option<usize>
     requires { (i < stop) × (stop ≤ length s.now) × (q ≡ quote_of d) }
-    ensures { Passed d s.now stop i result }
+    ensures { IfSome result (Passed d s.now stop i) }
 {
     if 0x80 <= s[i] {
-        return multibyte_run(s, i, stop);
+        let next = multibyte_run(s, i, stop);
+        if next == i {
+            return None;
+        }
+        return Some(next);
     }
     match d {
         Dialect::Csvj => {
-            if s[i] == 0x5C {
-                return escape_end(s, i, stop);
+            if s[i] != b'\\' {
+                return None;
             }
-            i
+            escape_end(s, i, stop)
         }
-        Dialect::Tdif => doubled_end(q, s, i, stop),
-        Dialect::CsvPlus(_) => doubled_end(q, s, i, stop),
+        Dialect::Tdif | Dialect::CsvPlus(_) => doubled_end(q, s, i, stop),
     }
 }
 
@@ -107,10 +98,9 @@ pub fn quoted_text(d: Dialect, s: &[u8], at: usize, stop: usize, q: u8) -> TextE
         if stop <= i {
             return TextEnd { end: i, clean };
         }
-        let next = pass(d, q, s, i, stop);
-        if next == i {
+        let Some(next) = pass(d, q, s, i, stop) else {
             return TextEnd { end: i, clean };
-        }
+        };
         if s[i] < 0x80 {
             clean = false;
         }

@@ -1,149 +1,92 @@
-// The ends of unquoted cells of CSVJ and TDIF: numbers without an exponent, true, false and null. An end at `stop` means fallback. The
-// definition is `EndsFrom` of specs/Ends.antt, by the parts of specs/BareValues.antt.
-ghost use Rattle.std.specs.Prelude.{◌≡◌, true, ◌≤◌, ◌<◌, length, get_or};
+// The ends of unquoted cells of CSVJ and TDIF: numbers without an exponent, true, false and null. None means fallback. The definition is
+// `EndsBefore` of specs/Ends.antt, by the parts of specs/BareValues.antt.
+ghost use Rattle.std.specs.Prelude.{◌≡◌, true, IfSome, ◌≤◌, ◌<◌, length, get_or};
 ghost use Rattle.model.specs.declared.Dialect.TheVariants.{Csvj, Tdif};
 ghost use Rattle.model.specs.declared.Cell.{Cell};
 ghost use Rattle.model.specs.declared.Cell.TheVariants.{Fresh};
 ghost use Rattle.model.specs.rules.Cell.{is_digit};
 ghost use Rattle.cell_fast.specs.TextRuns.{PassRun};
-ghost use Rattle.cell_fast.specs.Ends.{EndsFrom};
-ghost use Rattle.cell_fast.specs.BareValues.{Digits, is_letter_e, BeginsNumber, IntegerEnd, FractionEnd, FourLetters};
+ghost use Rattle.cell_fast.specs.Ends.{EndsBefore};
+ghost use Rattle.cell_fast.specs.BareValues.{Digits, is_letter_e, BeginsNumber, IntegerEnd, Letters};
 
-// The end of the digits from `at` on.
-fn digits(s: &[u8], at: usize, stop: usize) -> usize
+// The end of the digits from `at` on, of which there is at least one, before a byte that is no digit.
+fn digits_end(s: &[u8], at: usize, stop: usize) -> Option<usize>
     requires { (at ≤ stop) × (stop ≤ length s.now) }
-    ensures { Digits s.now at stop result }
+    ensures { IfSome result (Digits s.now at stop) }
 {
-    let mut i = at;
-    while i < stop {
+    for i in at..stop {
         if !cell_lexer::values::is_digit(s[i]) {
-            return i;
+            if i == at {
+                return None;
+            }
+            return Some(i);
         }
-        i += 1;
     }
-    i
+    None
 }
 
-// The end of the integer at `at`; `at` if there is none.
-fn integer_end(s: &[u8], at: usize, stop: usize) -> usize
+// The end of the integer at `at`.
+fn integer_end(s: &[u8], at: usize, stop: usize) -> Option<usize>
     requires { (at < stop) × (stop ≤ length s.now) }
-    ensures { IntegerEnd s.now stop at result }
+    ensures { IfSome result (IntegerEnd s.now stop at) }
 {
-    if s[at] == 0x30 {
-        return at + 1;
+    if s[at] != b'0' {
+        return digits_end(s, at, stop);
     }
-    digits(s, at, stop)
-}
-
-// The end of the digits after a point.
-fn fraction_end(s: &[u8], at: usize, stop: usize) -> usize
-    requires { (at ≤ stop) × (stop ≤ length s.now) }
-    ensures { FractionEnd s.now stop at result }
-{
-    let end = digits(s, at, stop);
-    if end == at {
-        return stop;
+    if stop - at < 2 {
+        return None;
     }
-    end
+    Some(at + 1)
 }
 
 fn is_letter_e(b: u8) -> bool
     ensures { result ≡ is_letter_e b }
 {
-    if b == 0x65 {
-        return true;
-    }
-    b == 0x45
+    matches!(b, b'e' | b'E')
 }
 
 // The end of a number whose digits begin at `at`.
-fn number_end(s: &[u8], at: usize, stop: usize) -> usize
+fn number_end(s: &[u8], at: usize, stop: usize) -> Option<usize>
     requires { (at < stop) × (stop ≤ length s.now) }
-    ensures { result < stop → (c : Cell) → BeginsNumber c → EndsFrom Csvj s.now stop c at result }
+    ensures { IfSome result (λ end. (c : Cell) → BeginsNumber c → EndsBefore Csvj s.now stop c at end) }
 {
-    let end = integer_end(s, at, stop);
-    if stop <= end {
-        return stop;
-    }
-    if end == at {
-        return stop;
-    }
-    if s[end] == 0x2E {
-        let last = fraction_end(s, end + 1, stop);
-        if stop <= last {
-            return stop;
-        }
+    let end = integer_end(s, at, stop)?;
+    if s[end] == b'.' {
+        let last = digits_end(s, end + 1, stop)?;
         if is_letter_e(s[last]) {
-            return stop;
+            return None;
         }
-        return last;
+        return Some(last);
     }
     if is_letter_e(s[end]) {
-        return stop;
+        return None;
     }
-    end
+    Some(end)
 }
 
-// The end of the four letters from `at` on, if the last three are these.
-fn letters_end(s: &[u8], at: usize, stop: usize, second: u8, third: u8, fourth: u8) -> usize
+// Whether these three letters follow the byte at `at`, and a byte before `stop` follows them.
+fn letters_follow(s: &[u8], at: usize, stop: usize, letters: &[u8; 3]) -> bool
     requires { (at < stop) × (stop ≤ length s.now) }
-    ensures { result < stop → FourLetters s.now at second third fourth result }
+    ensures { result ≡ true → Letters s.now at stop (get_or letters.now 0 0) (get_or letters.now 1 0) (get_or letters.now 2 0) }
 {
-    if stop - at < 4 {
-        return stop;
-    }
-    if s[at + 1] != second {
-        return stop;
-    }
-    if s[at + 2] != third {
-        return stop;
-    }
-    if s[at + 3] != fourth {
-        return stop;
-    }
-    at + 4
-}
-
-// The end of false, whose first letter is at `at`.
-fn false_end(s: &[u8], at: usize, stop: usize) -> usize
-    requires { (at < stop) × (stop ≤ length s.now) × (get_or s.now at 0 ≡ 0x66) }
-    ensures { result < stop → EndsFrom Csvj s.now stop Fresh at result }
-{
-    let end = letters_end(s, at, stop, 0x61, 0x6C, 0x73);
-    if stop <= end {
-        return stop;
-    }
-    if s[end] != 0x65 {
-        return stop;
-    }
-    end + 1
+    5 <= stop - at && s[at + 1] == letters[0] && s[at + 2] == letters[1] && s[at + 3] == letters[2]
 }
 
 // The end of an unquoted cell of CSVJ, a byte at a time.
-fn stepwise_end(s: &[u8], at: usize, stop: usize) -> usize
+fn stepwise_end(s: &[u8], at: usize, stop: usize) -> Option<usize>
     requires { (at < stop) × (stop ≤ length s.now) }
-    ensures { result < stop → EndsFrom Csvj s.now stop Fresh at result }
+    ensures { IfSome result (EndsBefore Csvj s.now stop Fresh at) }
 {
-    let b = s[at];
-    if b == 0x2D {
-        if stop - at < 2 {
-            return stop;
+    match s[at] {
+        b'-' if 2 <= stop - at => number_end(s, at + 1, stop),
+        b'0'..=b'9' => number_end(s, at, stop),
+        b't' if letters_follow(s, at, stop, b"rue") => Some(at + 4),
+        b'n' if letters_follow(s, at, stop, b"ull") => Some(at + 4),
+        b'f' if letters_follow(s, at, stop, b"als") && s[at + 4] == b'e' && 6 <= stop - at => {
+            Some(at + 5)
         }
-        return number_end(s, at + 1, stop);
+        _ => None,
     }
-    if b <= 0x39 {
-        return number_end(s, at, stop);
-    }
-    if b == 0x74 {
-        return letters_end(s, at, stop, 0x72, 0x75, 0x65);
-    }
-    if b == 0x6E {
-        return letters_end(s, at, stop, 0x75, 0x6C, 0x6C);
-    }
-    if b == 0x66 {
-        return false_end(s, at, stop);
-    }
-    stop
 }
 
 // The end of the digits from `at` on, as far as the next eight bytes show.
@@ -160,21 +103,19 @@ fn word_digits(s: &[u8], at: usize, stop: usize) -> usize
 // Whether the bytes from `at` up to the comma at `end` are a number without sign and exponent; false also as fallback.
 fn is_number(s: &[u8], at: usize, end: usize, stop: usize) -> bool
     requires { (at ≤ end) × (end < stop) × (stop ≤ length s.now) × (get_or s.now end 0 ≡ 0x2C) }
-    ensures { result ≡ true → EndsFrom Csvj s.now stop Fresh at end }
+    ensures { result ≡ true → EndsBefore Csvj s.now stop Fresh at end }
 {
     let i = word_digits(s, at, stop);
     if i == at {
         return false;
     }
-    if s[at] == 0x30 {
-        if at + 1 < i {
-            return false;
-        }
+    if s[at] == b'0' && at + 1 < i {
+        return false;
     }
     if end <= i {
         return i == end;
     }
-    if s[i] != 0x2E {
+    if s[i] != b'.' {
         return false;
     }
     let last = word_digits(s, i + 1, stop);
@@ -185,36 +126,26 @@ fn is_number(s: &[u8], at: usize, end: usize, stop: usize) -> bool
 }
 
 // The end of an unquoted cell of CSVJ; first by a guess, a number before the next comma.
-pub fn value_end(s: &[u8], at: usize, stop: usize) -> usize
+pub fn value_end(s: &[u8], at: usize, stop: usize) -> Option<usize>
     requires { (at < stop) × (stop ≤ length s.now) }
-    ensures { result < stop → EndsFrom Csvj s.now stop Fresh at result }
+    ensures { IfSome result (EndsBefore Csvj s.now stop Fresh at) }
 {
     if 8 <= stop - at {
-        let n = swar::guess(swar::word(s, at), 0x2C);
-        if n < 8 {
-            if s[at + n] == 0x2C {
-                if is_number(s, at, at + n, stop) {
-                    return at + n;
-                }
-            }
+        let n = swar::guess(swar::word(s, at), b',');
+        if n < 8 && s[at + n] == b',' && is_number(s, at, at + n, stop) {
+            return Some(at + n);
         }
     }
     stepwise_end(s, at, stop)
 }
 
 // The end of TDIF's null.
-pub fn null_end(s: &[u8], at: usize, stop: usize) -> usize
+pub fn null_end(s: &[u8], at: usize, stop: usize) -> Option<usize>
     requires { (at < stop) × (stop ≤ length s.now) }
-    ensures { result < stop → EndsFrom Tdif s.now stop Fresh at result }
+    ensures { IfSome result (EndsBefore Tdif s.now stop Fresh at) }
 {
-    if stop - at < 2 {
-        return stop;
+    if stop - at < 3 || s[at] != b'\\' || s[at + 1] != b'N' {
+        return None;
     }
-    if s[at] != 0x5C {
-        return stop;
-    }
-    if s[at + 1] != 0x4E {
-        return stop;
-    }
-    at + 2
+    Some(at + 2)
 }

@@ -18,7 +18,7 @@ use Rattle.model.specs.declared.FileState.{FileState}
 use Rattle.model.specs.declared.FileState.TheVariants.{Top, Begin, Ended, Bom1, Bom2, PlainBom1, PlainBom2, Comment, Blanks, ExpectCell, Inside, After, Cr}
 use Rattle.model.specs.declared.ByteRole.TheVariants.{Passed, Between, Tail, Ends}
 use Rattle.model.specs.rules.Types.{Step}
-use Rattle.std.specs.Prelude.{Ok}
+use Rattle.std.specs.Prelude.{Some, None, Ok}
 use Rattle.model.specs.rules.Base.{choose◌then◌else◌, ◌is◌, Bytes, QUOTE, LF, CR}
 use Rattle.model.specs.rules.Dialect.{quote_of, delimiter_of}
 use Rattle.model.specs.rules.Cell.{first_byte, cell_step}
@@ -45,9 +45,7 @@ use Rattle.record_scanner.proofs.StoreLaws.{not_stored, length_stored_if}
 use Rattle.record_scanner.proofs.TokenOutcomes.{met_of, cell_results, cell_lies, byte_results}
 use Rattle.record_scanner.proofs.ScanInvariant.{Call, Scanning, Asked, Stepping, Out, begins, by_byte, by_cell, step_on, step_over}
 use Rattle.cell_fast.specs.Ends.{EndsFrom, CleanCell}
-use Rattle.record_fast.specs.FastScan.{FirstCellAt, here, after_cr, after_pair, unknown, next_found, Clean, FastScanSound, is_found, is_fallback, RecordEndSound, at_once, by_pair}
-use Rattle.record_fast.specs.declared.FastScan.TheVariants.{Record, Fallback}
-use Rattle.record_fast.specs.declared.RecordEnd.TheVariants as closing
+use Rattle.record_fast.specs.FastScan.{FirstCellAt, here, after_cr, after_pair, next_found, Clean, FastScanSound, is_found, is_fallback, RecordEndSound, at_once, by_pair}
 use Rattle.record_fast.proofs.Endings.{next_cell, after_delimiter}
 
 no_and : (x : Bool) → (x && false) ≡ false
@@ -253,11 +251,10 @@ call_of d part first limit from room base starts₀ ends₀ kinds₀ =
 
 -- ---- the first cell
 
-pub begins_on : (first : FileState) (part : Bytes) (from start : ℕ) → FirstCellAt first part from start → from ≤ length part → from ≤ start
+pub begins_on : (first : FileState) (part : Bytes) (from start : ℕ) → FirstCellAt first part from (Some start) → from ≤ length part → from ≤ start
 begins_on first part from start (here e) l = omega arith
 begins_on first part from start (after_cr e q) l = omega arith
 begins_on first part from start (after_pair e k q) l = omega arith
-begins_on first part from start unknown l = l
 
 module _ (d : Dialect) (part : Bytes) (limit from room base : ℕ) (starts₀ ends₀ kinds₀ : List ℕ) (l : from ≤ length part) (m : from ≤ limit)
     (b : base ≤ from) (low : limit ≤ MAXFILE) where
@@ -296,7 +293,7 @@ module _ (d : Dialect) (part : Bytes) (limit from room base : ℕ) (starts₀ en
       ) (hand (from + 1)
       (from + 1) 0) (ap (λ (n : ℕ). record { start = from + 1; size = n; opened = from + 1; cells = 0 }) (sym x)) false refl refl
 
-  pub rest_begins : (first : FileState) {start : ℕ} → FirstCellAt first part from start → start < length part → start < limit
+  pub rest_begins : (first : FileState) {start : ℕ} → FirstCellAt first part from (Some start) → start < length part → start < limit
       → Rest (From first) start start 0 starts₀ ends₀ kinds₀
   rest_begins first (here e) i u =
       record { state = first; opening = subst (λ (f : FileState). Opening d (get_or part from 0) f) (sym e) at_begin; scanning = at_from first }
@@ -308,7 +305,6 @@ module _ (d : Dialect) (part : Bytes) (limit from room base : ℕ) (starts₀ en
         opening = at_begin;
         scanning = after_lf k (omega arith) q;
       })
-  rest_begins first unknown i u = absurd (omega arith)
 
 module _ (d : Dialect) (part : Bytes) (limit from room base : ℕ) (starts₀ ends₀ kinds₀ : List ℕ) (start stop : ℕ) where
   pub record Row (clean : Bool) (at n : ℕ) (starts ends kinds : List ℕ) : Type 0 where
@@ -320,12 +316,12 @@ module _ (d : Dialect) (part : Bytes) (limit from room base : ℕ) (starts₀ en
     pub long : (length starts ≡ length starts₀) × (length ends ≡ length ends₀) × (length kinds ≡ length kinds₀)
     pub roomy : (room ≤ length starts₀) × (room ≤ length ends₀) × (room ≤ length kinds₀)
     pub cleans : clean ≡ true → Clean d part room base n starts ends
-    pub rest : (first : FileState) → FirstCellAt first part from start
+    pub rest : (first : FileState) → FirstCellAt first part from (Some start)
         → Rest (call_of d part first limit from room base starts₀ ends₀ kinds₀) start at n starts ends kinds
 
   module _ {clean : Bool} {at n : ℕ} {starts ends kinds : List ℕ} (r : Row clean at n starts ends kinds) (on : at < stop) {e : ℕ}
       (ends_at : EndsFrom d part stop Fresh at e) where
-    pub cell_lies_in : (first : FileState) → FirstCellAt first part from start → (at ≤ e) × (e < length part) × (e < limit)
+    pub cell_lies_in : (first : FileState) → FirstCellAt first part from (Some start) → (at ≤ e) × (e < length part) × (e < limit)
     cell_lies_in first b =
         let y = r.rest first b in
         let i : stop ≤ length part = r.bounds.inside in
@@ -382,7 +378,7 @@ module _ (d : Dialect) (part : Bytes) (limit from room base : ℕ) (starts₀ en
   found : {first : FileState} {s m next : ℕ} {g : FileState} {clean : Bool} {starts ends kinds : List ℕ}
       → Out (call_of d part first limit from room base starts₀ ends₀ kinds₀) (reached.Completed s m g next) starts ends kinds
       → (clean ≡ true → Clean d part room base m starts ends)
-      → FastScanSound d limit part from first room base starts₀ ends₀ kinds₀ starts ends kinds (Record s m g next clean)
+      → FastScanSound d limit part from first room base starts₀ ends₀ kinds₀ starts ends kinds (Some (record { start = s; cells = m; state = g; next = next; clean = clean }))
   found {first} {s} {m} {next} {g} o c =
       let cs : List RawCell = (next_found d limit part from first).cells in
       is_found cs (ap (λ (a : ScanOutcome). record {
@@ -416,10 +412,10 @@ module _ (d : Dialect) (part : Bytes) (limit from room base : ℕ) (starts₀ en
         }
 
     -- after an ending the record is complete
-    pub last_cell_lem : e < stop → {f : FileState} {next : ℕ} → RecordEndSound d part e stop (closing.After f next) → {tells : Bool}
+    pub last_cell_lem : e < stop → {f : FileState} {next : ℕ} → RecordEndSound d part e stop (Some (f, next)) → {tells : Bool}
         → (tells ≡ true → CleanCell d (slice part at e)) → {starts' ends' kinds' : List ℕ}
-        → Writes d part room base n at e starts ends kinds starts' ends' kinds' → (first : FileState) → FirstCellAt first part from start
-        → FastScanSound d limit part from first room base starts₀ ends₀ kinds₀ starts' ends' kinds' (Record start (n + 1) f next (clean && tells))
+        → Writes d part room base n at e starts ends kinds starts' ends' kinds' → (first : FileState) → FirstCellAt first part from (Some start)
+        → FastScanSound d limit part from first room base starts₀ ends₀ kinds₀ starts' ends' kinds' (Some (record { start = start; cells = n + 1; state = f; next = next; clean = clean && tells }))
     unfolding one_more choose◌then◌else◌
     last_cell_lem before {f} (at_once s) {tells} x {starts'} {ends'} {kinds'} y first b =
         let k : Call = call_of d part first limit from room base starts₀ ends₀ kinds₀ in
@@ -465,7 +461,7 @@ module _ (d : Dialect) (part : Bytes) (limit from room base : ℕ) (starts₀ en
   holds (at_wanting x) e c = current refl
 
   pub odd : {clean : Bool} {at n : ℕ} {starts ends kinds : List ℕ} → Row clean at n starts ends kinds → (first : FileState)
-      → FirstCellAt first part from start → FastScanSound d limit part from first room base starts₀ ends₀ kinds₀ starts ends kinds Fallback
+      → FirstCellAt first part from (Some start) → FastScanSound d limit part from first room base starts₀ ends₀ kinds₀ starts ends kinds None
   unfolding joined_place joined_raw choose◌then◌else◌
   odd {at = at} {n = n} r first b =
       let g = r.rest first b in

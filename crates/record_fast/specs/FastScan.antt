@@ -1,5 +1,5 @@
 -- The fast path over a record: the scanner's result, or fallback; and what the lists hold then.
-use Rattle.std.specs.Prelude.{ℕ, ◌+◌, ◌<◌, ◌≡◌, Bool, true, false, List, ◌++◌, length, drop, get_or}
+use Rattle.std.specs.Prelude.{ℕ, ◌+◌, ◌<◌, ◌≡◌, true, false, Option, Some, None, Ok, List, ◌++◌, length, drop, get_or}
 use Rattle.model.specs.declared.Dialect.{Dialect}
 use Rattle.model.specs.declared.FileState.{FileState}
 use Rattle.model.specs.declared.FileState.TheVariants.{Begin, Ended}
@@ -8,7 +8,6 @@ use Rattle.model.specs.rules.Dialect.{quote_of}
 use Rattle.model.specs.rules.File.{after_cell}
 use Rattle.model.specs.declared.FileState.TheVariants.{Cr}
 use Rattle.model.specs.declared.ByteRole.TheVariants.{Tail, Ends}
-use Rattle.std.specs.Prelude.{Option, None, Some, Ok}
 use Rattle.model.specs.rules.Api.{slice}
 use Rattle.model.specs.laws.Scans.{RawCell, fresh}
 use Rattle.cell_fast.specs.Ends.{CleanCell}
@@ -20,11 +19,11 @@ use Rattle.record_fast.specs.declared.FastRecord.{FastRecord}
 -- ---- the start of a record
 
 -- where the first cell of a record starts, if the fast path takes it: here, or after the LF of a CRLF whose CR ended the record before
-pub data FirstCellAt (first : FileState) (part : Bytes) (from : ℕ) : ℕ → Type 0 where
-  here : first ≡ Begin → FirstCellAt first part from from
-  after_cr : first ≡ Ended → (get_or part from 0 is LF) ≡ false → FirstCellAt first part from from
-  after_pair : first ≡ Ended → from < length part → get_or part from 0 ≡ LF → FirstCellAt first part from (from + 1)
-  unknown : FirstCellAt first part from (length part)
+pub data FirstCellAt (first : FileState) (part : Bytes) (from : ℕ) : Option ℕ → Type 0 where
+  here : first ≡ Begin → FirstCellAt first part from (Some from)
+  after_cr : first ≡ Ended → (get_or part from 0 is LF) ≡ false → FirstCellAt first part from (Some from)
+  after_pair : first ≡ Ended → from < length part → get_or part from 0 ≡ LF → FirstCellAt first part from (Some (from + 1))
+  unknown : FirstCellAt first part from None
 
 -- ---- the end of a record
 
@@ -52,15 +51,15 @@ pub record Clean (d : Dialect) (part : Bytes) (room base n : ℕ) (starts ends :
   pub quotes : quote_of d ≡ QUOTE
   pub each : (k : ℕ) → k < n → base + k < room → CleanCell d (slice part (get_or starts (base + k) 0) (get_or ends (base + k) 0))
 
--- soundness of the fast path: a record that is found is the scanner's. On fallback its first cells may be in the lists
+-- soundness of the fast path: a record that is found is the scanner's. On fallback (`None`) its first cells may be in the lists
 pub data FastScanSound (d : Dialect) (limit : ℕ) (part : Bytes) (from : ℕ) (f : FileState) (room base : ℕ)
     (starts₀ ends₀ kinds₀ starts ends kinds : List ℕ) : Option FastRecord → Type 0 where
   is_found :
-      {start cells next : ℕ} {g : FileState} {clean : Bool} (cs : List RawCell) →
-      next_found d limit part from f ≡ record { answer = reached.Completed start cells g next; cells = cs } →
-      ScanInBounds (length part) from limit base (reached.Completed start cells g next) → StoredCells d room base cs starts₀ ends₀ kinds₀ starts ends kinds →
-      (clean ≡ true → Clean d part room base cells starts ends) → FastScanSound d limit part from f room base starts₀ ends₀ kinds₀ starts
-      ends kinds (Some (record { start = start; cells = cells; state = g; next = next; clean = clean }))
+      {r : FastRecord} (cs : List RawCell) →
+      next_found d limit part from f ≡ record { answer = reached.Completed r.start r.cells r.state r.next; cells = cs } →
+      ScanInBounds (length part) from limit base (reached.Completed r.start r.cells r.state r.next) →
+      StoredCells d room base cs starts₀ ends₀ kinds₀ starts ends kinds → (r.clean ≡ true → Clean d part room base r.cells starts ends) →
+      FastScanSound d limit part from f room base starts₀ ends₀ kinds₀ starts ends kinds (Some r)
   is_fallback :
       (cs more : List RawCell) → (next_found d limit part from f).cells ≡ cs ++ more → StoredCells d room base cs starts₀ ends₀ kinds₀ starts ends kinds →
       FastScanSound d limit part from f room base starts₀ ends₀ kinds₀ starts ends kinds None

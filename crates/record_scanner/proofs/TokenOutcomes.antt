@@ -229,19 +229,6 @@ module _ (d : Dialect) (limit : ℕ) (part : Bytes) (cs : List RawCell) (stop : 
       not_full : (f : FileState) (j : ℕ) (k : RecordState) → k.size < MAXRECORD → (leb MAXRECORD k.size && counts f (get_or part j 0)) ≡ false
       not_full f j k l = rw (lt-leb MAXRECORD k.size l)
 
--- ---- limits
-
-pub many_free : (length limit i size : ℕ) → i < length → i < limit → size < MAXRECORD
-    → Free length limit i size (min (min length limit) (i + (MAXRECORD - size)))
-many_free n limit i size h k l =
-    let a : min (min n limit) (i + (MAXRECORD - size)) ≤ min n limit = least_first (min n limit) (i + (MAXRECORD - size)) in
-    let b : min (min n limit) (i + (MAXRECORD - size)) ≤ i + (MAXRECORD - size) = least_second (min n limit) (i + (MAXRECORD - size)) in
-    let c : min n limit ≤ n = least_first n limit in
-    let d : min n limit ≤ limit = least_second n limit in
-    let e : i < min n limit = least_above i n limit h k in
-    let f : i < i + (MAXRECORD - size) = omega arith in
-    record { on = least_above i (min n limit) (i + (MAXRECORD - size)) e f; inside = omega arith; under = omega arith; fits = λ _. omega arith }
-
 -- ---- the token, by the lexer's result
 
 -- a cell

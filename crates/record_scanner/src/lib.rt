@@ -91,7 +91,7 @@ pub fn scan(
                         ends,
                         kinds,
                     );
-                    h = record_state::after_byte(p, i, h);
+                    h = h.after_byte(p, i);
                     i += 1;
                     if record_state::ends_record(p) {
                         return ScanOutcome::Completed {
@@ -106,12 +106,12 @@ pub fn scan(
                 }
             },
             Token::Skipped(j) => {
-                h = record_state::after_byte(ByteRole::Outside, j - 1, h);
+                h = h.after_byte(ByteRole::Outside, j - 1);
                 i = j;
                 continue;
             }
             Token::AfterCell { closes, at: j } => {
-                h = record_state::after_bytes(h, j - i);
+                h = h.after_bytes(j - i);
                 i = j;
                 match file_lexer::separators::after_cell(d, closes, part[j]) {
                     Err(e) => {
@@ -133,7 +133,7 @@ pub fn scan(
                             ends,
                             kinds,
                         );
-                        h = record_state::after_byte(p, i, h);
+                        h = h.after_byte(p, i);
                         i += 1;
                         if record_state::ends_record(p) {
                             return ScanOutcome::Completed {
@@ -155,7 +155,7 @@ pub fn scan(
                 };
             }
             Token::Open(c, j) => {
-                h = record_state::after_bytes(h, j - i);
+                h = h.after_bytes(j - i);
                 state = FileState::Inside(c);
                 i = j;
                 continue;

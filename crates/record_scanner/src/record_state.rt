@@ -22,12 +22,9 @@ pub fn closes_cell(p: ByteRole) -> bool
     ensures { result ≡ closes_cell p }
 {
     match p {
-        ByteRole::Outside => false,
-        ByteRole::Passed => false,
-        ByteRole::OfCell => false,
-        ByteRole::Between { closes } => closes,
-        ByteRole::Tail { closes } => closes,
-        ByteRole::Ends { closes } => closes,
+        ByteRole::Outside | ByteRole::Passed | ByteRole::OfCell => false,
+        ByteRole::Between { closes } | ByteRole::Tail { closes } | ByteRole::Ends { closes } =>
+            closes,
     }
 }
 
@@ -35,80 +32,60 @@ pub fn closes_cell(p: ByteRole) -> bool
 pub fn ends_record(p: ByteRole) -> bool
     ensures { result ≡ ends_record p }
 {
-    match p {
-        ByteRole::Outside => false,
-        ByteRole::Passed => false,
-        ByteRole::OfCell => false,
-        ByteRole::Between { closes: _ } => false,
-        ByteRole::Tail { closes: _ } => false,
-        ByteRole::Ends { closes: _ } => true,
-    }
+    matches!(p, ByteRole::Ends { closes: _ })
 }
 
-fn one_more(closes: bool, cells: usize) -> usize
-    requires { cells + 1 < 2 ^ 64 }
-    ensures { result ≡ one_more closes cells }
-{
-    if closes {
-        return cells + 1;
+impl RecordState {
+    // The number of complete cells, with the one that ends.
+    fn one_more(self, closes: bool) -> usize
+        requires { self.cells + 1 < 2 ^ 64 }
+        ensures { result ≡ one_more closes self.cells }
+    {
+        self.cells + usize::from(closes)
     }
-    cells
-}
 
-// The current record after the byte at i, which has this role.
-pub fn after_byte(p: ByteRole, i: usize, h: RecordState) -> RecordState
-    requires { (i + 1 < 2 ^ 64) × (h.size + 1 < 2 ^ 64) × (h.cells + 1 < 2 ^ 64) }
-    ensures { result ≡ state_after_byte p i h }
-{
-    match p {
-        ByteRole::Outside => RecordState {
-            start: h.start,
-            size: 0,
-            opened: i + 1,
-            cells: 0,
-        },
-        ByteRole::Passed => RecordState {
-            start: i + 1,
-            size: 0,
-            opened: i + 1,
-            cells: 0,
-        },
-        ByteRole::OfCell => RecordState {
-            start: h.start,
-            size: h.size + 1,
-            opened: h.opened,
-            cells: h.cells,
-        },
-        ByteRole::Between { closes } => RecordState {
-            start: h.start,
-            size: h.size + 1,
-            opened: i + 1,
-            cells: one_more(closes, h.cells),
-        },
-        ByteRole::Tail { closes } => RecordState {
-            start: h.start,
-            size: h.size,
-            opened: i + 1,
-            cells: one_more(closes, h.cells),
-        },
-        ByteRole::Ends { closes } => RecordState {
-            start: h.start,
-            size: h.size,
-            opened: i + 1,
-            cells: one_more(closes, h.cells),
-        },
+    // The current record after the byte at i, which has this role.
+    pub fn after_byte(self, p: ByteRole, i: usize) -> RecordState
+        requires { (i + 1 < 2 ^ 64) × (self.size + 1 < 2 ^ 64) × (self.cells + 1 < 2 ^ 64) }
+        ensures { result ≡ state_after_byte p i self }
+    {
+        let opened = i + 1;
+        match p {
+            ByteRole::Outside => RecordState {
+                size: 0,
+                opened,
+                cells: 0,
+                ..self
+            },
+            ByteRole::Passed => RecordState {
+                start: opened,
+                size: 0,
+                opened,
+                cells: 0,
+            },
+            ByteRole::OfCell => self.after_bytes(1),
+            ByteRole::Between { closes } => RecordState {
+                size: self.size + 1,
+                opened,
+                cells: self.one_more(closes),
+                ..self
+            },
+            ByteRole::Tail { closes } | ByteRole::Ends { closes } => RecordState {
+                opened,
+                cells: self.one_more(closes),
+                ..self
+            },
+        }
     }
-}
 
-// The current record after n more bytes of a cell.
-pub fn after_bytes(h: RecordState, n: usize) -> RecordState
-    requires { h.size + n < 2 ^ 64 }
-    ensures { result ≡ extended_by h n }
-{
-    RecordState {
-        start: h.start,
-        size: h.size + n,
-        opened: h.opened,
-        cells: h.cells,
+    // The current record after n more bytes of a cell.
+    pub fn after_bytes(self, n: usize) -> RecordState
+        requires { self.size + n < 2 ^ 64 }
+        ensures { result ≡ extended_by self n }
+    {
+        RecordState {
+            size: self.size + n,
+            ..self
+        }
     }
 }

@@ -1,8 +1,9 @@
-// A complete cell stored in the lent lists, if there is room. The definition is `store_if` of specs/Stored.antt.
+// A complete cell stored in the lent lists, if there is room. The definition is `store_if` of specs/Stored.antt. The
+// lists stay three slices, since a caller from C lends three arrays.
 ghost use Rattle.std.specs.Prelude.{◌≡◌, ◌≤◌, length};
 ghost use Rattle.model.specs.rules.Decode.{kind_number, kind_of};
 ghost use Rattle.model.specs.rules.Api.{slice};
-ghost use Rattle.record_scanner.specs.Stored.{store_at, store_if};
+ghost use Rattle.record_scanner.specs.Stored.{store_if};
 
 use model::Dialect;
 
@@ -25,13 +26,9 @@ pub fn store_cell(
     ensures ends_after { ends.new ≡ store_if closes room k i ends.old }
     ensures kinds_after { kinds.new ≡ store_if closes room k (kind_number (kind_of d (slice part.now opened i))) kinds.old }
 {
-    if closes {
-        if k < room {
-            starts[k] = opened;
-            ends[k] = i;
-            kinds[k] = u8::from(codes::cell::kind_of(d, &part[opened..i]));
-            return;
-        }
-        return;
+    if closes && k < room {
+        starts[k] = opened;
+        ends[k] = i;
+        kinds[k] = u8::from(codes::cell::kind_of(d, &part[opened..i]));
     }
 }

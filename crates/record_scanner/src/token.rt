@@ -65,10 +65,11 @@ fn comment_end(f: FileState, part: &[u8], i: usize, limit: usize) -> usize
     ensures { result ≡ comment_end f part.now limit i }
 {
     match f {
-        FileState::Comment(t) => match t {
-            Char::Whole => cell_scanner::comment_run(part, i, part.len().min(limit)),
-            Char::Within(_) => i,
-        },
+        FileState::Comment(Char::Whole) => cell_scanner::comment_run(
+            part,
+            i,
+            part.len().min(limit),
+        ),
         _ => i,
     }
 }

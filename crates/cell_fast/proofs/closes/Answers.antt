@@ -1,20 +1,14 @@
 -- `cell_fast::closes` meets its contract: a quote before a byte that is no second quote closes the cell; in CSVJ every quote does.
 use mathlib.Core.Path.{◌≡◌, sym, ap, ◌∙◌}
 use mathlib.Core.Bool.{false}
+use mathlib.Core.Logic.{inl, inr}
 use native.Mathlib.Omega.{arith}
 use lib.ListN.{get_or}
 use borrow.Author.Tests.{not-true, eqb-false}
 use Rattle.model.specs.rules.Base.{QUOTE}
 use Rattle.model.specs.rules.Dialect.{quote_of, is_csvj}
-use Rattle.model.proofs.Tests.{impossible}
 use Rattle.cell_fast.proofs.QuotedCells.{string_closes, quote_closes}
 use Rattle.cell_fast.proofs.closes.Goals as goal
-
-pub returns-then-s-i : goal.returns-then-s-i
-returns-then-s-i c = λ e. impossible e
-
-pub returns-then-stop-i-lt2 : goal.returns-then-stop-i-lt2
-returns-then-stop-i-lt2 c = λ e. impossible e
 
 pub returns-in-Csvj : goal.returns-in-Csvj
 returns-in-Csvj c =
@@ -23,12 +17,6 @@ returns-in-Csvj c =
 
 pub returns-in-Tdif : goal.returns-in-Tdif
 returns-in-Tdif c = λ e.
-    let doubles : is_csvj c.args.d ≡ false = rw c.in-Tdif.is in
-    quote_closes c.args.s.now c.args.stop c.args.i c.requires.1 c.args.d doubles (omega arith)
-    (c.if-s-i.false ∙ c.requires.2) (λ f. eqb-false _ _ (not-true _ e) (f ∙ sym c.requires.2))
-
-pub returns-in-CsvPlus : goal.returns-in-CsvPlus
-returns-in-CsvPlus c = λ e.
-    let doubles : is_csvj c.args.d ≡ false = rw c.in-CsvPlus.is in
+    let doubles : is_csvj c.args.d ≡ false = elim c.in-Tdif.is [ inl f ↦ rw f | inr f ↦ rw f.1 ] in
     quote_closes c.args.s.now c.args.stop c.args.i c.requires.1 c.args.d doubles (omega arith)
     (c.if-s-i.false ∙ c.requires.2) (λ f. eqb-false _ _ (not-true _ e) (f ∙ sym c.requires.2))

@@ -1,11 +1,10 @@
 -- `cell_fast::plain_rest_end` meets its contract: the text of the cell, and the byte after it.
 use mathlib.Core.Path.{◌≡◌, sym, ◌∙◌}
-use mathlib.Core.Bool.{true, false}
+use mathlib.Core.Bool.{true}
 use lib.ListN.{get_or}
 use Rattle.model.specs.rules.Dialect.{delimiter_of, quote_of}
 use Rattle.cell_fast.specs.TextRuns.{TextRun, is_open}
 use Rattle.cell_fast.specs.CellOutcome.{is_end}
-use Rattle.cell_fast.proofs.CellOutcomes.{untold}
 use Rattle.cell_fast.proofs.PlainCells.{plain_found}
 use Rattle.cell_fast.proofs.plain_rest_end.Goals as goal
 
@@ -17,9 +16,3 @@ returns-then-is_end c = λ d m ep eq.
     rw (ep, eq) at c.plain_text-i.ensures in
     let end : is_end (delimiter_of d) (get_or a.s.now i 0) ≡ true = rw ep at (sym c.is_end.ensures ∙ c.if-is_end.true) in
     plain_found d m c.requires.0 c.requires.1 (λ e. c.requires.4 (e ∙ sym eq)) run c.if-i-stop.true end
-
-pub returns-else-is_end : goal.returns-else-is_end
-returns-else-is_end c = λ d m ep eq. let a = c.args in untold d a.s.now a.at a.stop false
-
-pub returns-else-i-stop : goal.returns-else-i-stop
-returns-else-i-stop c = λ d m ep eq. let a = c.args in untold d a.s.now a.at a.stop false

@@ -1,21 +1,15 @@
 -- `cell_fast::quoted_end` meets its contract: the guess is tested, and otherwise `quoted_rest_end` finds the end.
-use native.Mathlib.Omega.{arith}
 use mathlib.Core.Path.{◌∙◌}
-use Rattle.cell_fast.proofs.PassRuns.{pass_zeros}
 use Rattle.cell_fast.proofs.TextRuns.{quoted_run}
 use Rattle.cell_fast.proofs.QuotedCells.{quoted_found}
 use Rattle.cell_fast.proofs.quoted_end.Goals as goal
 
 pub returns-then-closes : goal.returns-then-closes
 returns-then-closes c =
-    let passed =
-    (pass_zeros c.clean_words-from.ensures (omega arith) c.word-w.ensures
-    c.unclean.ensures c.guess-n.result
-    (c.if-n-before_flag.true ∙ c.before_flag.ensures)).1 in
+    let more = rw c.in-Some.is at c.clean_words-words.ensures.more in
+    let passed = rw (← c.if-n-clean.true) at more.2 in
     quoted_found c.requires.0 c.requires.1 (c.requires.3 ∙ c.requires.2) (quoted_run c.args.d c.args.q c.requires.2 c.requires.1 passed)
     (c.closes.ensures c.if-closes.true)
 
 pub returns : goal.returns
-returns c =
-    c.quoted_rest_end.ensures c.args.at c.requires.0 c.requires.3
-    c.clean_words-from.ensures
+returns c = c.quoted_rest_end.ensures c.args.at c.requires.0 c.requires.3 c.clean_words-words.ensures.words

@@ -6,8 +6,5 @@ use Rattle.record_fast.proofs.crlf_end.Goals as goal
 pub returns-then-stop-e-lt2 : goal.returns-then-stop-e-lt2
 returns-then-stop-e-lt2 c = λ d _. nowhere
 
-pub returns-then-part-e-ne10 : goal.returns-then-part-e-ne10
-returns-then-part-e-ne10 c = λ d _. nowhere
-
 pub returns : goal.returns
 returns c = λ d h. by_pair (omega arith) h c.if-part-e-ne10.false

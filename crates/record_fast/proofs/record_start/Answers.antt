@@ -5,8 +5,5 @@ use Rattle.record_fast.proofs.record_start.Goals as goal
 pub returns-in-Begin : goal.returns-in-Begin
 returns-in-Begin c = here c.in-Begin.is
 
-pub returns-in-Ended : goal.returns-in-Ended
-returns-in-Ended c = rw c.in-Ended.is c.after_cr.ensures
-
 pub returns-in_default : goal.returns-in_default
 returns-in_default c = unknown

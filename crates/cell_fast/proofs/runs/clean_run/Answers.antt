@@ -1,25 +1,6 @@
-use native.Mathlib.Omega.{arith}
-use Rattle.cell_fast.proofs.PassRuns.{pass_none, pass_join, pass_word, pass_flag}
+-- `cell_fast::runs::clean_run` meets its contract: whole words, and then the bytes before the first that is not clean.
+use Rattle.cell_fast.proofs.PassRuns.{pass_join}
 use Rattle.cell_fast.proofs.runs.clean_run.Goals as goal
 
-pub loop-i-init : goal.loop-i-init
-loop-i-init c = pass_none c.args.s.now c.args.at c.args.stop c.requires.0
-
-pub overflow_add-result : goal.overflow_add-result
-overflow_add-result c =
-    omega (
-      arith,
-      (pass_flag c.loop-i.invariant (omega arith) c.word.ensures
-          c.unclean-flags.ensures c.before_flag.result c.if-flags-ne0.true c.before_flag.ensures).0,
-    )
-
-pub returns-then-flags-ne0 : goal.returns-then-flags-ne0
-returns-then-flags-ne0 c =
-    (pass_flag c.loop-i.invariant (omega arith) c.word.ensures c.unclean-flags.ensures
-    c.before_flag.result c.if-flags-ne0.true c.before_flag.ensures).1
-
-pub loop-i-preserved : goal.loop-i-preserved
-loop-i-preserved c = pass_word c.loop-i.invariant (omega arith) c.word.ensures c.unclean-flags.ensures c.if-flags-ne0.false
-
-pub returns : goal.returns
-returns c = pass_join c.loop-i.invariant c.single_steps.ensures
+pub returns-in-None : goal.returns-in-None
+returns-in-None c = pass_join c.clean_words-words.ensures.words c.single_steps.ensures

@@ -1,29 +1,27 @@
 -- `cell_fast::value::stepwise_end` meets its contract: the first byte decides between a number and the words.
 use native.Mathlib.Omega.{arith}
+use mathlib.Core.Path.{refl}
+use Rattle.std.proofs.lemmas.Option.{IfSome_then}
 use Rattle.model.specs.declared.Numeral.TheVariants.{Minus}
 use Rattle.model.specs.declared.Cell.TheVariants.{Fresh, InNumber}
 use Rattle.cell_fast.specs.BareValues.{unsigned, negative}
-use Rattle.cell_fast.proofs.BareValues.{minus_ends, true_ends, null_ends}
+use Rattle.cell_fast.proofs.BareValues.{minus_ends, true_ends, null_ends, false_ends}
 use Rattle.cell_fast.proofs.value.stepwise_end.Goals as goal
 
-pub returns-then-stop-at-lt2 : goal.returns-then-stop-at-lt2
-returns-then-stop-at-lt2 c = λ h. absurd (omega arith)
+pub returns-in-45 : goal.returns-in-45
+returns-in-45 c =
+    IfSome_then c.number_end.result c.number_end.ensures
+    (λ r x. minus_ends c.args.s.now c.args.stop c.args.at c.requires.1 c.requires.0 c.in-45.is (x (InNumber Minus) negative))
 
-pub returns-then-b-eq45 : goal.returns-then-b-eq45
-returns-then-b-eq45 c = λ h.
-    minus_ends c.args.s.now c.args.stop c.args.at c.requires.1 c.number_end.result c.requires.0
-    c.if-b-eq45.true (c.number_end.ensures h (InNumber Minus) negative)
+pub returns-in-48-to-57 : goal.returns-in-48-to-57
+returns-in-48-to-57 c = IfSome_then c.number_end-in-48-to-57.result c.number_end-in-48-to-57.ensures (λ r x. x Fresh unsigned)
 
-pub returns-then-b-le57 : goal.returns-then-b-le57
-returns-then-b-le57 c = λ h. c.number_end-then-b-le57.ensures h Fresh unsigned
+pub returns-in-116 : goal.returns-in-116
+returns-in-116 c = true_ends c.requires.1 c.in-116.is (c.if-letters_follow.ensures refl)
 
-pub returns-then-b-eq116 : goal.returns-then-b-eq116
-returns-then-b-eq116 c = λ h. true_ends c.requires.1 c.if-b-eq116.true h (c.letters_end.ensures h)
+pub returns-in-110 : goal.returns-in-110
+returns-in-110 c = null_ends c.requires.1 c.in-110.is (c.if-letters_follow-2.ensures refl)
 
-pub returns-then-b-eq110 : goal.returns-then-b-eq110
-returns-then-b-eq110 c = λ h.
-    null_ends c.requires.1 c.if-b-eq110.true h
-    (c.letters_end-then-b-eq110.ensures h)
-
-pub returns : goal.returns
-returns c = λ h. absurd (omega arith)
+pub returns-in-102 : goal.returns-in-102
+returns-in-102 c =
+    false_ends c.requires.1 c.in-102.is (c.if-letters_follow-3.ensures refl) c.if-s-at-eq101.true (omega arith)
