@@ -23,20 +23,16 @@ fn write_part(e: Report, b: u8, out: &mut [u8], o: usize) -> usize
     requires { o + length (part_of e b) ≤ length out.old }
     ensures { (result ≡ o + length (part_of e b)) × (out.new ≡ written out.old o (part_of e b)) }
 {
-    if b == b'N' {
-        return write_number(e.number, out, o);
+    match b {
+        b'N' => write_number(e.number, out, o),
+        b'R' => write_number(e.record_number, out, o),
+        b'C' => write_number(e.column, out, o),
+        b'B' => write_number(e.offset, out, o),
+        _ => {
+            out[o] = b;
+            o + 1
+        }
     }
-    if b == b'R' {
-        return write_number(e.record_number, out, o);
-    }
-    if b == b'C' {
-        return write_number(e.column, out, o);
-    }
-    if b == b'B' {
-        return write_number(e.offset, out, o);
-    }
-    out[o] = b;
-    o + 1
 }
 
 // Writes a form with the numbers of a report in it. None of them has more than 20 digits.
@@ -44,11 +40,9 @@ fn fill(e: Report, form: &[u8], out: &mut [u8]) -> usize
     requires { 20 * length form.now ≤ length out.old }
     ensures { (result ≡ length (filled e form.now)) × (out.new ≡ over (filled e form.now) out.old) }
 {
-    let mut i = 0;
     let mut o = 0;
-    while i < form.len() {
-        o = write_part(e, form[i], out, o);
-        i += 1;
+    for b in form {
+        o = write_part(e, *b, out, o);
     }
     o
 }
