@@ -1,2 +1,3 @@
 pub mod SentenceLaws
 pub mod Examples
+pub mod Spelling

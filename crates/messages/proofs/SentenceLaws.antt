@@ -7,17 +7,15 @@ use native.Mathlib.Nat.{one-le-pow, pow-suc, div-lt_iff_lt-mul, le-div_iff_mul-l
 use native.Mathlib.Numerals.{unary_clauses}
 use native.Mathlib.Omega.{arith}
 use lib.ListN.{length, drop, get_or, length-append, drop_of_length-le}
-use lib.Seq.{length-take-le}
 use lib.Dec.{ltb}
 use borrow.Author.Tests.{ltb-true, ltb-false, ne_eqb}
-use Rattle.io.specs.Counts.{IsPrefixLen}
 use Rattle.io.specs.Digits.{last_digits, IsDigitCount}
 use Rattle.model.specs.declared.Report.{Report}
 use Rattle.model.specs.rules.Base.{Bytes, over, choose◌then◌else◌, ◌is◌}
 use Rattle.model.proofs.Tests.{split}
 use Rattle.buffer.specs.Writes.{written}
 use Rattle.buffer.proofs.WriteProgress.{drop_next, Writing, put, room_left, done, filled as filled-out}
-use Rattle.messages.specs.Sentences.{places_of, decimal, part_of, filled, form_of, sentence_of}
+use Rattle.messages.specs.Sentences.{places_of, decimal, part_of, filled, form_of}
 
 -- ---- digits
 
@@ -120,22 +118,3 @@ pub other_form :
 unfolding form_of choose◌then◌else◌
 other_form n column a b c d e f g h i =
     rw (ne_eqb n 1 a, ne_eqb n 2 b, ne_eqb n 3 c, ne_eqb n 4 d, ne_eqb n 5 e, ne_eqb n 6 f, ne_eqb n 7 g, ne_eqb n 8 h, ne_eqb n 9 i)
-
-module _ (e : Report) (old : Bytes) {new : Bytes} {r : ℕ} where
-  -- a form of the report's fault, filled, is its sentence
-  pub sentence_as :
-      {form : Bytes} → form_of e.number e.column ≡ form → (r ≡ length (filled e form)) × (new ≡ over (filled e form) old) →
-      (r ≡ length (sentence_of e)) × (new ≡ over (sentence_of e) old)
-  sentence_as q p = rw q p
-
-  -- the same for the fault with this number
-  pub sentence_of_lem :
-      (n : ℕ) → e.number ≡ n → (r ≡ length (filled e (form_of n e.column))) × (new ≡ over (filled e (form_of n e.column)) old) →
-      (r ≡ length (sentence_of e)) × (new ≡ over (sentence_of e) old)
-  sentence_of_lem n q = sentence_as (ap (λ (m : ℕ). form_of m e.column) q)
-
-  -- and lies in the buffer
-  pub sentence_counts : (r ≡ length (sentence_of e)) × (new ≡ over (sentence_of e) old) → IsPrefixLen r new
-  sentence_counts p =
-      let h : r ≤ length new = rw p.1 (simp length-append (omega (arith, p.0))) in
-      (h, sym (length-take-le r new h))

@@ -192,7 +192,8 @@ pub fn before_flag(flags: u64) -> usize
 }
 
 // A guess at the number of bytes before the first `c`; 8: none found. It takes fewer instructions than an exact test, since it takes a
-// byte that differs in its top bit alone for `c`. Nothing is promised of it, so its callers test what it returns.
+// byte that differs in its top bit alone for `c`. Nothing is promised of it, so its callers test what it returns. No Option: they join
+// `n < 8` to their other tests of n by `&&`, in one condition, where an `if let` would nest them.
 pub fn guess(w: u64, c: u8) -> usize {
     let near = (TOP_BITS - ((w & LOW_BITS) ^ eight_stops(c))) & TOP_BITS;
     if near == 0 {

@@ -1,7 +1,10 @@
--- `messages::refusal::write_part` meets its contract: its tests are the definition's.
-use mathlib.Core.Path.{refl}
+-- `messages::refusal::write_part` meets its contract: its arms are the definition's.
+use mathlib.Core.Path.{◌≡◌, refl}
+use mathlib.Core.List.{[], ◌∷◌}
+use Prim.Native.Nat.{ℕ}
 use native.Mathlib.Omega.{arith}
-use borrow.Author.Tests.{eq-eqb, ne_eqb}
+use borrow.Author.Tests.{ne_eqb}
+use Rattle.model.specs.declared.Report.{Report}
 use Rattle.model.specs.rules.Base.{choose◌then◌else◌}
 use Rattle.buffer.proofs.WriteProgress.{set_written}
 use Rattle.messages.specs.Sentences.{part_of}
@@ -9,76 +12,48 @@ use Rattle.messages.proofs.refusal.write_part.Goals as goal
 
 pub write_number-requires : goal.write_number-requires
 unfolding part_of choose◌then◌else◌
-write_number-requires c = rw (eq-eqb _ 0x4E c.if-b-eq78.true) at c.requires
+write_number-requires c = rw c.in-78.is at c.requires
 
-pub returns-then-b-eq78 : goal.returns-then-b-eq78
+pub returns-in-78 : goal.returns-in-78
 unfolding part_of choose◌then◌else◌
-returns-then-b-eq78 c = rw (eq-eqb _ 0x4E c.if-b-eq78.true) c.write_number.ensures
+returns-in-78 c = rw c.in-78.is c.write_number.ensures
 
-pub write_number-requires-then-b-eq82 : goal.write_number-requires-then-b-eq82
+pub write_number-requires-in-82 : goal.write_number-requires-in-82
 unfolding part_of choose◌then◌else◌
-write_number-requires-then-b-eq82 c = rw (ne_eqb _ 0x4E c.if-b-eq78.false, eq-eqb _ 0x52 c.if-b-eq82.true) at c.requires
+write_number-requires-in-82 c = rw c.in-82.is at c.requires
 
-pub returns-then-b-eq82 : goal.returns-then-b-eq82
+pub returns-in-82 : goal.returns-in-82
 unfolding part_of choose◌then◌else◌
-returns-then-b-eq82 c = rw (ne_eqb _ 0x4E c.if-b-eq78.false, eq-eqb _ 0x52 c.if-b-eq82.true) c.write_number-then-b-eq82.ensures
+returns-in-82 c = rw c.in-82.is c.write_number-in-82.ensures
 
-pub write_number-requires-then-b-eq67 : goal.write_number-requires-then-b-eq67
+pub write_number-requires-in-67 : goal.write_number-requires-in-67
 unfolding part_of choose◌then◌else◌
-write_number-requires-then-b-eq67 c =
-    rw (ne_eqb _ 0x4E c.if-b-eq78.false, ne_eqb _ 0x52 c.if-b-eq82.false, eq-eqb _ 0x43 c.if-b-eq67.true) at
-    c.requires
+write_number-requires-in-67 c = rw c.in-67.is at c.requires
 
-pub returns-then-b-eq67 : goal.returns-then-b-eq67
+pub returns-in-67 : goal.returns-in-67
 unfolding part_of choose◌then◌else◌
-returns-then-b-eq67 c =
-    rw (ne_eqb _ 0x4E c.if-b-eq78.false, ne_eqb _ 0x52 c.if-b-eq82.false, eq-eqb _ 0x43 c.if-b-eq67.true)
-    c.write_number-then-b-eq67.ensures
+returns-in-67 c = rw c.in-67.is c.write_number-in-67.ensures
 
-pub write_number-requires-then-b-eq66 : goal.write_number-requires-then-b-eq66
+pub write_number-requires-in-66 : goal.write_number-requires-in-66
 unfolding part_of choose◌then◌else◌
-write_number-requires-then-b-eq66 c =
-    rw (
-      ne_eqb _ 0x4E c.if-b-eq78.false,
-      ne_eqb _ 0x52 c.if-b-eq82.false,
-      ne_eqb _ 0x43 c.if-b-eq67.false,
-      eq-eqb _ 0x42 c.if-b-eq66.true,
-    ) at c.requires
+write_number-requires-in-66 c = rw c.in-66.is at c.requires
 
-pub returns-then-b-eq66 : goal.returns-then-b-eq66
+pub returns-in-66 : goal.returns-in-66
 unfolding part_of choose◌then◌else◌
-returns-then-b-eq66 c =
-    rw (
-      ne_eqb _ 0x4E c.if-b-eq78.false,
-      ne_eqb _ 0x52 c.if-b-eq82.false,
-      ne_eqb _ 0x43 c.if-b-eq67.false,
-      eq-eqb _ 0x42 c.if-b-eq66.true,
-    ) c.write_number-then-b-eq66.ensures
+returns-in-66 c = rw c.in-66.is c.write_number-in-66.ensures
+
+-- any other byte is itself
+other : (e : Report) (b : ℕ) → (b ≡ 0x4E → ⊥) → (b ≡ 0x52 → ⊥) → (b ≡ 0x43 → ⊥) → (b ≡ 0x42 → ⊥) → part_of e b ≡ b ∷ []
+unfolding part_of choose◌then◌else◌
+other e b n r c o = rw (ne_eqb b 0x4E n, ne_eqb b 0x52 r, ne_eqb b 0x43 c, ne_eqb b 0x42 o)
 
 pub bounds-out-o : goal.bounds-out-o
-unfolding part_of choose◌then◌else◌
 bounds-out-o c =
-    let h = rw (
-      ne_eqb _ 0x4E c.if-b-eq78.false,
-      ne_eqb _ 0x52 c.if-b-eq82.false,
-      ne_eqb _ 0x43 c.if-b-eq67.false,
-      ne_eqb _ 0x42 c.if-b-eq66.false,
-    ) at c.requires in
-    omega arith
+    let h = rw (other c.args.e c.args.b (λ h. omega arith) (λ h. omega arith) (λ h. omega arith) (λ h. omega arith)) at c.requires in omega arith
 
-pub returns : goal.returns
-unfolding part_of choose◌then◌else◌
-returns c =
+pub returns-in_default : goal.returns-in_default
+returns-in_default c =
     let a = c.args in
-    let h = rw (
-      ne_eqb _ 0x4E c.if-b-eq78.false,
-      ne_eqb _ 0x52 c.if-b-eq82.false,
-      ne_eqb _ 0x43 c.if-b-eq67.false,
-      ne_eqb _ 0x42 c.if-b-eq66.false,
-    ) at c.requires in
-    rw (
-      ne_eqb _ 0x4E c.if-b-eq78.false,
-      ne_eqb _ 0x52 c.if-b-eq82.false,
-      ne_eqb _ 0x43 c.if-b-eq67.false,
-      ne_eqb _ 0x42 c.if-b-eq66.false,
-    ) (refl, set_written a.out.now a.o a.b (omega arith))
+    let e = other a.e a.b (λ h. omega arith) (λ h. omega arith) (λ h. omega arith) (λ h. omega arith) in
+    let h = rw e at c.requires in
+    rw e (refl, set_written a.out.now a.o a.b (omega arith))
