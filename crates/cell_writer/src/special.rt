@@ -18,10 +18,7 @@ fn is_special(s: Settings, b: u8) -> bool
     ensures { result ≡ special s b }
 {
     let t = Dialect::CsvPlus(s);
-    b == cell_lexer::quote_of(t)
-        || b == cell_lexer::delimiter_of(t)
-        || b == b'\r'
-        || b == b'\n'
+    b == cell_lexer::quote_of(t) || b == cell_lexer::delimiter_of(t) || b == b'\r' || b == b'\n'
 }
 
 // Whether a unit needs quotes: only a single byte may.

@@ -5,9 +5,9 @@ ghost use Rattle.cell_decoder.specs.FirstByte.{content_in};
 ghost use Rattle.cell_decoder.specs.declared.first_byte.Spelling.TheVariants.{Doubled, Escaped};
 ghost use Rattle.cell_writer.specs.Contents.{content_from, source_quote, Part};
 
-use cell_decoder::escape;
 use cell_decoder::escape::Unescaped;
 use cell_decoder::first_byte::Spelling;
+use cell_decoder::{content, escape};
 
 // Where the content begins: for a cell without content, at its end.
 pub fn content_start(c: Spelling, raw: &[u8]) -> usize
@@ -30,19 +30,14 @@ pub fn quote_in(c: Spelling) -> u8
     }
 }
 
-// Two quotes are one quote of content, and a single quote ends the content.
 fn doubled_at(q: u8, raw: &[u8], i: usize) -> Unescaped
     requires { i < length raw.now }
     ensures { Part (Doubled q) raw.now i result.text result.next }
 {
-    let b = raw[i];
-    if b != q {
-        return Unescaped::byte(b, i + 1);
+    match content::undoubled_at(q, raw, i) {
+        Some((b, next)) => Unescaped::byte(b, next),
+        None => Unescaped::end_of(raw),
     }
-    if raw.len() - i < 2 || raw[i + 1] != q {
-        return Unescaped::end_of(raw);
-    }
-    Unescaped::byte(b, i + 2)
 }
 
 fn string_at(raw: &[u8], i: usize) -> Unescaped
