@@ -46,6 +46,7 @@ fn word_steps(s: &[u8], at: usize, p: u8, q: u8) -> usize
     ensures { result ≡ at + plain_run p q q (drop at s.now) }
 {
     let mut i = at;
+    // No `chunks`: a flag ends the run within its word.
     while 8 <= s.len() - i {
         let flags = unplain(swar::word(s, i), p, q);
         if flags != 0 {
