@@ -38,6 +38,13 @@ pub data Legible : Spelling → Bytes → Type 0 where
   as_it_lies : {raw : Bytes} → Legible AsItStands raw
   decoded : {c : Spelling} {raw : Bytes} → Decoded c raw → Legible c raw
 
+-- the same as one fact: if the content has to be decoded, its quote is ASCII, it is at most a record long, and it has a lone surrogate by
+-- an escape only
+abbrev pub IsLegible : Spelling → Bytes → Type 0
+IsLegible c raw =
+    (c ≡ Nothing → ⊥) → (c ≡ AsItStands → ⊥)
+    → ((q : ℕ) → c ≡ Doubled q → q ≤ 0x7F) × (length (content_in c raw) ≤ MAXRECORD) × EdFollowed raw
+
 -- `text` is the content at i, one unit or nothing, and it continues at `next`; a single byte ED is in the cell itself, before `next`
 pub record Part (c : Spelling) (raw : Bytes) (i : ℕ) (text : Bytes) (next : ℕ) : Type 0 where
   pub stands : content_from c raw i ≡ text ++ content_from c raw next

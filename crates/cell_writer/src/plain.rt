@@ -18,12 +18,8 @@ fn single_steps(s: &[u8], at: usize, p: u8, q: u8, r: u8) -> usize
     ensures { result ≡ at + plain_run p q r (drop at s.now) }
 {
     let mut i = at;
-    while i < s.len() {
-        if is_plain(p, q, r, s[i]) {
-            i += 1;
-        } else {
-            return i;
-        }
+    while i < s.len() && is_plain(p, q, r, s[i]) {
+        i += 1;
     }
     i
 }

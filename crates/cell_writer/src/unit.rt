@@ -3,11 +3,19 @@
 ghost use Rattle.std.specs.Prelude.{◌≡◌, ◌<◌, length};
 ghost use Rattle.cell_decoder.specs.FirstByte.{content_in};
 ghost use Rattle.cell_decoder.specs.declared.first_byte.Spelling.TheVariants.{Doubled, Escaped};
-ghost use Rattle.cell_writer.specs.Contents.{content_from, source_quote, Part};
+ghost use Rattle.cell_writer.specs.Contents.{content_from, source_quote, IsLegible, Part};
 
 use cell_decoder::escape::Unescaped;
 use cell_decoder::first_byte::Spelling;
 use cell_decoder::{content, escape};
+
+// The bytes of a cell, and how its content is encoded in them. A content that has to be decoded is that of a sound cell.
+#[derive(Clone, Copy)]
+pub struct Encoded<'a> {
+    pub spelling: Spelling,
+    pub raw: &'a [u8],
+    ghost legible: { IsLegible spelling raw.now },
+}
 
 // Where the content begins: for a cell without content, at its end.
 pub fn content_start(c: Spelling, raw: &[u8]) -> usize
