@@ -22,7 +22,7 @@ use Rattle.cell_decoder.proofs.DoubledQuotes as undoubled
 use Rattle.cell_decoder.proofs.Strings.{string_end, string_quote, string_byte}
 use Rattle.cell_writer.specs.PlainRuns.{plain_run}
 use Rattle.cell_writer.specs.Units.{paired}
-use Rattle.cell_writer.specs.Contents.{content_on, content_from, source_quote, Decoded, by_doubled, by_string, Legible, IsLegible, has_none, as_it_lies, decoded, Part}
+use Rattle.cell_writer.specs.Contents.{content_on, content_from, source_quote, Decoded, by_doubled, by_string, Legible, Part}
 use Rattle.cell_writer.proofs.PlainRuns.{run_inside, content_run}
 use Rattle.cell_writer.proofs.Units.{no_surrogate}
 
@@ -103,13 +103,7 @@ module _ (raw : Bytes) (i : ℕ) (h : i < length raw) where
 
 -- ---- a single byte begins no lone surrogate in a cell that is decoded
 
-pub legible_is : {c : Spelling} {raw : Bytes} → Legible c raw → IsLegible c raw
-legible_is has_none n a = absurd (n refl)
-legible_is as_it_lies n a = absurd (a refl)
-legible_is (decoded (by_doubled {q} h l e)) n a = (λ r f. let same : q ≡ r = cc in omega arith, l, e)
-legible_is (decoded (by_string l e)) n a = (λ r f. let z : ◌≡◌ {A = ℕ} 0 1 = cc in absurd (omega arith), l, e)
-
-pub legible_decoded : {c : Spelling} {raw : Bytes} → IsLegible c raw → ((q : ℕ) × (c ≡ Doubled q)) ⊎ (c ≡ Escaped) → Decoded c raw
+pub legible_decoded : {c : Spelling} {raw : Bytes} → Legible c raw → ((q : ℕ) × (c ≡ Doubled q)) ⊎ (c ≡ Escaped) → Decoded c raw
 legible_decoded {c} {raw} h (inl e) =
     let d : c ≡ Doubled e.0 = e.1 in
     let p = h (λ f. let z : ◌≡◌ {A = ℕ} 0 1 = cc in absurd (omega arith)) (λ f. let z : ◌≡◌ {A = ℕ} 0 1 = cc in absurd (omega arith)) in

@@ -3,7 +3,7 @@
 ghost use Rattle.std.specs.Prelude.{◌≡◌, ◌<◌, length};
 ghost use Rattle.cell_decoder.specs.FirstByte.{content_in};
 ghost use Rattle.cell_decoder.specs.declared.first_byte.Spelling.TheVariants.{Doubled, Escaped};
-ghost use Rattle.cell_writer.specs.Contents.{content_from, source_quote, IsLegible, Part};
+ghost use Rattle.cell_writer.specs.Contents.{content_from, source_quote, Legible, Part};
 
 use cell_decoder::escape::Unescaped;
 use cell_decoder::first_byte::Spelling;
@@ -14,7 +14,7 @@ use cell_decoder::{content, escape};
 pub struct Encoded<'a> {
     pub spelling: Spelling,
     pub raw: &'a [u8],
-    ghost legible: { IsLegible spelling raw.now },
+    ghost legible: { Legible spelling raw.now },
 }
 
 // Where the content begins: for a cell without content, at its end.

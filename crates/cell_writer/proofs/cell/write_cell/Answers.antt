@@ -8,11 +8,10 @@ use Rattle.cell_decoder.specs.declared.first_byte.Spelling.{Spelling}
 use Rattle.cell_writer.specs.declared.cell.WrittenForm.TheVariants.{AsNumber}
 use Rattle.cell_writer.specs.Cells.{value_of, text_cell, number_in, written_as, word_for}
 use Rattle.cell_writer.proofs.Cells.{encoded_legible, encoded_number, legible_as, number_way, text_way, cell_as_text, cell_as_number, cell_as_word, number_no_text, word_no_text}
-use Rattle.cell_writer.proofs.Contents.{legible_is}
 use Rattle.cell_writer.proofs.cell.write_cell.Goals as goal
 
 pub invariant_of-e : goal.invariant_of-e
-invariant_of-e c = record { legible = legible_is (legible_as c.spelling_in.ensures.value (encoded_legible c.requires.encoded)) }
+invariant_of-e c = record { legible = legible_as c.spelling_in.ensures.value (encoded_legible c.requires.encoded) }
 
 pub write_text-requires : goal.write_text-requires
 write_text-requires c =
