@@ -18,6 +18,7 @@ fn single_steps(s: &[u8], at: usize, p: u8, q: u8, r: u8) -> usize
     ensures { result ≡ at + plain_run p q r (drop at s.now) }
 {
     let mut i = at;
+    // No `position`: a run up to the end of the slice would be a case of its own.
     while i < s.len() && is_plain(p, q, r, s[i]) {
         i += 1;
     }
