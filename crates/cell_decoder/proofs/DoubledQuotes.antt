@@ -2,11 +2,13 @@
 use mathlib.Core.Path.{◌≡◌, refl, sym, ap, ◌∙◌}
 use mathlib.Core.Bool.{Bool, true, false}
 use mathlib.Core.List.{[], ◌∷◌}
-use Prim.Native.Nat.{ℕ, ◌+◌, ◌<◌, ◌≤◌}
+use Prim.Native.Nat.{ℕ, ◌+◌, ◌-◌, ◌<◌, ◌≤◌}
+use native.Mathlib.Omega.{arith}
 use lib.ListN.{length, drop, get_or, drop_of_length-le}
 use borrow.Author.Tests.{eq-eqb, ne_eqb}
 use Rattle.model.specs.rules.Base.{choose◌then◌else◌, Bytes}
 use Rattle.model.specs.rules.Decode.{undouble}
+use Rattle.cell_decoder.specs.DoubledQuotes.{UndoubledThere}
 use Rattle.buffer.proofs.WriteProgress.{drop_next}
 
 pub at_end : (q : ℕ) (seen : Bool) (raw : Bytes) (i : ℕ) → length raw ≤ i → undouble q seen (drop i raw) ≡ []
@@ -38,3 +40,20 @@ module _ (q : ℕ) (raw : Bytes) (i : ℕ) (h : i < length raw) where
 
   pub at_last : get_or raw i 0 ≡ q → length raw ≤ i + 1 → undouble q false (drop i raw) ≡ []
   at_last e k = at_first e ∙ at_end q true raw (i + 1) k
+
+  before : get_or raw (i + 1 - 1) 0 ≡ get_or raw i 0
+  before = let e : i + 1 - 1 ≡ i = omega arith in rw e
+
+  pub there_other : (get_or raw i 0 ≡ q → ⊥) → UndoubledThere q raw i (get_or raw i 0) (i + 1)
+  there_other e = record { stands = at_other e; on = omega arith; inside = omega arith; last = before }
+
+  pub there_double : get_or raw i 0 ≡ q → i + 1 < length raw → get_or raw (i + 1) 0 ≡ q → UndoubledThere q raw i (get_or raw i 0) (i + 2)
+  there_double e k f =
+      let two : i + 1 + 1 ≡ i + 2 = omega arith in
+      let back : i + 2 - 1 ≡ i + 1 = omega arith in
+      record {
+        stands = at_double e k f ∙ ap (λ (n : ℕ). get_or raw i 0 ∷ undouble q false (drop n raw)) two;
+        on = omega arith;
+        inside = omega arith;
+        last = ap (λ (n : ℕ). get_or raw n 0) back ∙ f ∙ sym e;
+      }

@@ -4,7 +4,7 @@ use mathlib.Core.Bool.{true, false, and-false}
 use mathlib.Core.List.{List, [], ◌∷◌, ◌++◌, append-nil}
 use Prim.Native.Nat.{ℕ, ◌+◌, ◌-◌, ◌*◌, ◌<◌, ◌≤◌}
 use native.Mathlib.Omega.{arith}
-use lib.ListN.{length, drop, get_or, drop_of_length-le, length-append, length-drop}
+use lib.ListN.{length, drop, get_or, drop_of_length-le, length-drop}
 use borrow.Author.Tests.{ne_eqb, le-leb, lt-leb}
 use Rattle.model.specs.rules.Base.{choose◌then◌else◌, Bytes, ◌is◌, within, QUOTE, BACKSLASH}
 use Rattle.model.specs.rules.Utf8.{pack, joined, is_high, is_low}
@@ -243,10 +243,6 @@ module _ (raw : Bytes) (i h : ℕ) (u : UnitThere raw i) (e : h ≡ unit_at raw 
       ∙ pair h l (units between (drop (i + 6 + 6) raw)) t w.low
       ∙ rw (at, whole))
       (omega arith) (rw at at w.inside)
-
-pub proceeds_length : {raw : Bytes} {i : ℕ} {text : Bytes} {next : ℕ} → Proceeds raw i text next
-    → length (string_from raw i) ≡ length text + length (string_from raw next)
-proceeds_length {raw} {i} {text} {next} g = ap length g.stands ∙ length-append text (string_from raw next)
 
 -- ---- the content of a string at an offset
 

@@ -1,5 +1,6 @@
 pub mod Units
 pub mod Strings
+pub mod DoubledQuotes
 pub mod FirstByte
 pub mod Answer
 pub mod Followed

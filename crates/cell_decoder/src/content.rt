@@ -4,6 +4,7 @@
 ghost use Rattle.std.specs.Prelude.{◌≡◌, ◌≤◌, false, length, drop};
 ghost use Rattle.model.specs.rules.Base.{over};
 ghost use Rattle.model.specs.rules.Decode.{undouble};
+ghost use Rattle.cell_decoder.specs.DoubledQuotes.{UndoubledAt};
 ghost use Rattle.cell_decoder.specs.Strings.{string_from};
 ghost use Rattle.cell_decoder.specs.FirstByte.{content_in};
 
@@ -12,24 +13,32 @@ use crate::first_byte::Spelling;
 
 // ---- text with quotes doubled
 
+// The byte of the text at i, and where the text continues; none at its end.
+pub fn undoubled_at(q: u8, raw: &[u8], i: usize) -> Option<(u8, usize)>
+    ensures { UndoubledAt q raw.now i result }
+{
+    if raw.len() <= i {
+        return None;
+    }
+    let b = raw[i];
+    if b != q {
+        return Some((b, i + 1));
+    }
+    if raw.len() - i < 2 || raw[i + 1] != q {
+        return None;
+    }
+    Some((b, i + 2))
+}
+
 // The length of the text after an opening quote.
 fn undoubled_length(q: u8, raw: &[u8]) -> usize
     ensures { result ≡ length (undouble q false (drop 1 raw.now)) }
 {
     let mut i = 1;
     let mut n: usize = 0;
-    while i < raw.len() {
-        if raw[i] == q {
-            i += 1;
-            if raw.len() <= i {
-                return n;
-            }
-            if raw[i] != q {
-                return n;
-            }
-        }
+    while let Some((_, next)) = undoubled_at(q, raw, i) {
         n += 1;
-        i += 1;
+        i = next;
     }
     n
 }
@@ -41,24 +50,14 @@ fn write_undoubled(q: u8, raw: &[u8], out: &mut [u8])
 {
     let mut i = 1;
     let mut o = 0;
-    while i < raw.len() {
-        let b = raw[i];
-        if b == q {
-            i += 1;
-            if raw.len() <= i {
-                return;
-            }
-            if raw[i] != q {
-                return;
-            }
-        }
+    while let Some((b, next)) = undoubled_at(q, raw, i) {
         out[o] = b;
         o += 1;
-        i += 1;
+        i = next;
     }
 }
 
-// ---- strings of CSVJ
+// ---- strings of CSVJ: two loops, since a byte that is no escape is counted or stored at once and is no text of its own
 
 // The length of the string after an opening quote.
 fn string_length(raw: &[u8]) -> usize

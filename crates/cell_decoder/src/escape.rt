@@ -68,6 +68,7 @@ fn unit_at(raw: &[u8], i: usize) -> u32
     requires { i + 4 ≤ length raw.now }
     ensures { (result ≡ unit_at raw.now i) × (result ≤ 733992) }
 {
+    // No fold: four digits are no plainer in a loop.
     let a = hex_of(raw[i]);
     let b = hex_of(raw[i + 1]);
     let c = hex_of(raw[i + 2]);

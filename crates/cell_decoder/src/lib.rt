@@ -16,7 +16,7 @@ ghost use Rattle.model.specs.rules.Api.{decoder, decoder_leaves};
 ghost use Rattle.cell_decoder.specs.Answer.{given_answer, decoder_answer, sound_cell, any_cell};
 
 use codes::cell;
-use model::{CellFault, Dialect, Kind, Report};
+use model::{Dialect, Kind, Report};
 
 pub mod content;
 pub mod escape;
@@ -71,8 +71,7 @@ pub fn decode_cell(d: Dialect, raw: &[u8], room: &mut [u8]) -> Result<Decoded, R
     ensures result_value { given_answer result ≡ decoder_answer (any_cell d raw.now (length room.old)) }
     ensures room_after { room.new ≡ over (any_cell d raw.now (length room.old)).content room.old }
 {
-    validate::validate_cell(d, raw)
-        .map_err(|CellFault { fault, offset }| codes::record_report(fault, 0, offset))?;
+    validate::validate_cell(d, raw).map_err(|f| codes::record_report(f.fault, 0, f.offset))?;
     decode_sound(d, raw, room)
 }
 

@@ -1,24 +1,22 @@
 -- The text of a content by offset: what stops a run, and the rest.
-use Rattle.std.proofs.Common.{◌⊎◌, inl, inr, nat_eq}
+use Rattle.std.proofs.Common.{nat_eq}
 use mathlib.Core.Path.{◌≡◌, refl, sym, ap, ◌∙◌}
 use mathlib.Core.Bool.{Bool, true, false, ◌||◌}
 use mathlib.Core.List.{[], ◌∷◌, ◌++◌}
 use Prim.Native.Nat.{ℕ, ◌+◌, ◌-◌, ◌≤◌, ◌<◌}
 use native.Mathlib.Omega.{arith}
-use lib.Dec.{leb}
 use lib.ListN.{length, take, drop, get_or, length-drop}
 use lib.Seq.{drop-drop, take_all}
-use borrow.Author.Tests.{leb-true}
 use Rattle.model.specs.declared.Dialect.{Dialect}
 use Rattle.model.specs.declared.Dialect.TheVariants.{Csvj, Tdif, CsvPlus}
-use Rattle.model.specs.rules.Base.{Bytes, choose◌then◌else◌, ◌is◌, QUOTE}
+use Rattle.model.specs.rules.Base.{Bytes, choose◌then◌else◌, QUOTE}
 use Rattle.model.specs.rules.Dialect.{quote_of, is_csvj}
 use Rattle.model.specs.rules.Utf8.{is_surrogate, holds_lone}
 use Rattle.model.specs.rules.Text.{surrogate, json_body, doubled}
-use Rattle.model.proofs.Tests.{split_on, impossible, and_true}
-use Rattle.cell_decoder.specs.Units.{Unit, one}
+use Rattle.model.proofs.Tests.{split_on, impossible}
+use Rattle.cell_decoder.specs.Units.{one}
 use Rattle.cell_decoder.specs.declared.first_byte.Spelling.{Spelling}
-use Rattle.cell_decoder.specs.declared.first_byte.Spelling.TheVariants.{Nothing, AsItStands}
+use Rattle.cell_decoder.specs.declared.first_byte.Spelling.TheVariants.{AsItStands}
 use Rattle.cell_writer.specs.Units.{body_text, is_lone, begins_lone, paired}
 use Rattle.cell_writer.specs.Contents.{content_from, source_quote, Decoded, Part}
 use Rattle.cell_writer.specs.Bodies.{Stops}
@@ -52,12 +50,6 @@ lone_body [] e = impossible e
 lone_body (a ∷ []) e = impossible e
 lone_body (a ∷ b ∷ []) e = impossible e
 lone_body (a ∷ b ∷ c ∷ l) e = surrogate_append a b c l e
-
-pub lone_second : (l : Bytes) → begins_lone l ≡ true → 0xA0 ≤ get_or l 1 0
-lone_second [] e = impossible e
-lone_second (a ∷ []) e = impossible e
-lone_second (a ∷ b ∷ []) e = impossible e
-lone_second (a ∷ b ∷ c ∷ l) e = leb-true 0xA0 b (and_true (a is 0xED) (leb 0xA0 b) e).1
 
 -- a byte is first
 first_text : (t : Dialect) (l : Bytes) → 0 < length l → (is_csvj t ≡ true → begins_lone l ≡ false)
@@ -104,11 +96,6 @@ module _ (c : Bytes) (i : ℕ) where
         tells = rw (l, ← next) (first_tells (drop i c) some);
       }
 
-pub stops_verbatim : {c : Spelling} {t : Dialect} {raw : Bytes} {i : ℕ} {text : Bytes} {next : ℕ} {lone : Bool}
-    → (c ≡ Nothing) ⊎ (c ≡ AsItStands) → Stops AsItStands t raw i text next lone → Stops c t raw i text next lone
-stops_verbatim (inl e) p = rw e (record { stands = p.stands; on = p.on; inside = p.inside; tells = p.tells })
-stops_verbatim (inr e) p = rw e p
-
 -- ---- in a cell that is decoded
 
 not_empty : (u : Bytes) → nat_eq (length u) 0 ≡ false → 0 < length u
@@ -130,10 +117,6 @@ module _ {c : Spelling} {raw : Bytes} {i : ℕ} {unit : Bytes} {next : ℕ} (p :
         inside = p.inside;
         tells = ap holds_lone p.stands ∙ lone_append unit rest some apart ∙ ap (λ (x : Bool). x || holds_lone rest) (sym l);
       }
-
-  -- a unit that is there
-  pub part_unit : nat_eq (length unit) 0 ≡ false → Unit unit
-  part_unit z = p.unit (not_empty unit z)
 
 -- ---- a run, and the end
 

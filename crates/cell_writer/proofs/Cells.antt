@@ -22,16 +22,15 @@ use Rattle.model.proofs.file_laws.Lengths.{content_length}
 use Rattle.buffer.specs.Writes.{Room, WrittenAt}
 use Rattle.buffer.proofs.WriteProgress.{Emitting, emitting, put_next, put_whole, same_long}
 use Rattle.cell_decoder.specs.FirstByte.{spelling_by, content_in}
-use Rattle.cell_decoder.specs.Followed.{EdFollowed}
 use Rattle.cell_decoder.specs.Sources.{spelling_in, content_by, Encoded, in_file, as_content}
 use Rattle.cell_decoder.specs.declared.source.Source.{Source}
 use Rattle.cell_decoder.specs.declared.first_byte.Spelling.{Spelling}
-use Rattle.cell_decoder.specs.declared.first_byte.Spelling.TheVariants.{Nothing, AsItStands, Doubled, Escaped}
+use Rattle.cell_decoder.specs.declared.first_byte.Spelling.TheVariants.{Doubled}
 use Rattle.cell_decoder.proofs.FirstByte.{content_first}
 use Rattle.cell_writer.specs.declared.cell.WrittenForm.{WrittenForm}
 use Rattle.cell_writer.specs.declared.cell.WrittenForm.TheVariants.{AsText, AsNumber, AsWord}
 use Rattle.cell_writer.specs.Units.{body_text}
-use Rattle.cell_writer.specs.Contents.{Legible, has_none, as_it_lies, decoded, by_doubled, by_string}
+use Rattle.cell_writer.specs.Contents.{Legible}
 use Rattle.cell_writer.specs.Cells.{is_quoted, quote_by, text_cell, number_in, written_as, word_for}
 use Rattle.cell_writer.proofs.QuoteDecision.{cell_by}
 
@@ -182,12 +181,6 @@ word_no_text e = let z : ◌≡◌ {A = ℕ} 0 1 = cc in absurd (omega arith)
 pub legible_as : {c c' : Spelling} {raw : Bytes} → c ≡ c' → Legible c' raw → Legible c raw
 legible_as e p = rw e p
 
-legible_of : (c : Spelling) (raw : Bytes) → ((q : ℕ) → c ≡ Doubled q → q ≤ 0x7F) → length (content_in c raw) ≤ MAXRECORD → EdFollowed raw → Legible c raw
-legible_of Nothing raw q l e = has_none
-legible_of AsItStands raw q l e = as_it_lies
-legible_of (Doubled q) raw h l e = decoded (by_doubled (h q refl) l e)
-legible_of Escaped raw q l e = decoded (by_string l e)
-
 same_quote : {p q : ℕ} → Doubled p ≡ Doubled q → p ≡ q
 same_quote e = cc
 
@@ -211,8 +204,8 @@ pub encoded_legible : {src : Source} {k : Kind} {raw : Bytes} → Encoded src k 
 encoded_legible (in_file {d} {raw} h j e) =
     let c : Spelling = spelling_by d (get_or raw 0 0) in
     let short : length (content_in c raw) ≤ MAXRECORD = rw (content_first d raw) (omega (arith, content_length d raw)) in
-    legible_of c raw (λ q f. encoded_quote d (get_or raw 0 0) q f) short j
-encoded_legible as_content = as_it_lies
+    λ _ _. (λ q f. encoded_quote d (get_or raw 0 0) q f, short, j)
+encoded_legible as_content = λ _ a. absurd (a refl)
 
 -- the content of a number is the raw cell, if it begins like a number
 no_text : {A : Type 0} → Number ≡ Text → A

@@ -10,13 +10,11 @@ use lib.Seq.{drop-drop}
 use lib.Dec.{ltb}
 use borrow.Author.Tests.{lt-leb, eq-eqb, ltb-true, ltb-false}
 use Rattle.model.specs.rules.Base.{Bytes, QUOTE, BACKSLASH, ◌is◌}
-use Rattle.model.specs.rules.Report.{MAXRECORD}
 use Rattle.model.specs.rules.Decode.{undouble}
 use Rattle.model.proofs.Tests.{split_on, impossible, is→eq}
 use Rattle.buffer.proofs.WriteProgress.{drop_next}
 use Rattle.cell_decoder.specs.Units.{one}
-use Rattle.cell_decoder.specs.Strings.{Proceeds}
-use Rattle.cell_decoder.specs.FirstByte.{content_in}
+use Rattle.cell_decoder.specs.DoubledQuotes.{UndoubledThere}
 use Rattle.cell_decoder.specs.Followed.{EdFollows, EdFollowed}
 use Rattle.cell_decoder.specs.declared.first_byte.Spelling.{Spelling}
 use Rattle.cell_decoder.specs.declared.first_byte.Spelling.TheVariants.{Nothing, AsItStands, Doubled, Escaped}
@@ -24,7 +22,7 @@ use Rattle.cell_decoder.proofs.DoubledQuotes as undoubled
 use Rattle.cell_decoder.proofs.Strings.{string_end, string_quote, string_byte}
 use Rattle.cell_writer.specs.PlainRuns.{plain_run}
 use Rattle.cell_writer.specs.Units.{paired}
-use Rattle.cell_writer.specs.Contents.{content_on, content_from, source_quote, Decoded, by_doubled, by_string, Legible, has_none, as_it_lies, decoded, Part}
+use Rattle.cell_writer.specs.Contents.{content_on, content_from, source_quote, Decoded, by_doubled, by_string, Legible, Part}
 use Rattle.cell_writer.proofs.PlainRuns.{run_inside, content_run}
 use Rattle.cell_writer.proofs.Units.{no_surrogate}
 
@@ -90,23 +88,12 @@ module _ (raw : Bytes) (i : ℕ) (h : i < length raw) where
       rw e (record { stands = p.stands; on = p.on; inside = p.inside; unit = p.unit; single = p.single })
   verbatim_part (inr e) = rw e itself_part
 
-  pub other_part : (q : ℕ) → (get_or raw i 0 ≡ q → ⊥) → Part (Doubled q) raw i (get_or raw i 0 ∷ []) (i + 1)
-  other_part q e = part_byte (Doubled q) raw i (get_or raw i 0) (i + 1) (undoubled.at_other q raw i h e) (omega arith) (omega arith) at_before
+  -- text with doubled quotes: a byte, or the end
+  pub doubled_part : (q : ℕ) {b next : ℕ} → UndoubledThere q raw i b next → Part (Doubled q) raw i (b ∷ []) next
+  doubled_part q {b} {next} t = part_byte (Doubled q) raw i b next t.stands t.on t.inside t.last
 
-  -- a quote, and a second one
-  pub double_part : (q : ℕ) → get_or raw i 0 ≡ q → i + 1 < length raw → get_or raw (i + 1) 0 ≡ q → Part (Doubled q) raw i (get_or raw i 0 ∷ []) (i + 2)
-  double_part q e k f =
-      let two : i + 1 + 1 ≡ i + 2 = omega arith in
-      let back : i + 2 - 1 ≡ i + 1 = omega arith in
-      part_byte (Doubled q) raw i (get_or raw i 0) (i + 2)
-      (undoubled.at_double q raw i h e k f ∙ ap (λ (n : ℕ). get_or raw i 0 ∷ undouble q false (drop n raw)) two)
-      (omega arith) (omega arith) (ap (λ (n : ℕ). get_or raw n 0) back ∙ f ∙ sym e)
-
-  pub close_part : (q : ℕ) → get_or raw i 0 ≡ q → i + 1 < length raw → (get_or raw (i + 1) 0 ≡ q → ⊥) → Part (Doubled q) raw i [] (length raw)
-  close_part q e k f = part_end (Doubled q) raw i h (undoubled.at_close q raw i h e k f)
-
-  pub last_part : (q : ℕ) → get_or raw i 0 ≡ q → length raw ≤ i + 1 → Part (Doubled q) raw i [] (length raw)
-  last_part q e k = part_end (Doubled q) raw i h (closed_doubled q raw i h e k)
+  pub doubled_end : (q : ℕ) → undouble q false (drop i raw) ≡ [] → Part (Doubled q) raw i [] (length raw)
+  doubled_end q e = part_end (Doubled q) raw i h e
 
   pub quote_part : get_or raw i 0 ≡ QUOTE → Part Escaped raw i [] (length raw)
   quote_part e = part_end Escaped raw i h (closed_string raw i h e)
@@ -114,21 +101,16 @@ module _ (raw : Bytes) (i : ℕ) (h : i < length raw) where
   pub char_part : (get_or raw i 0 ≡ QUOTE → ⊥) → (get_or raw i 0 ≡ BACKSLASH → ⊥) → Part Escaped raw i (get_or raw i 0 ∷ []) (i + 1)
   char_part q b = part_byte Escaped raw i (get_or raw i 0) (i + 1) (string_byte raw i h q b) (omega arith) (omega arith) at_before
 
-pub escape_part : {raw : Bytes} {i : ℕ} {text : Bytes} {next : ℕ} → Proceeds raw i text next → Part Escaped raw i text next
-escape_part g = record { stands = g.stands; on = omega (arith, g.on); inside = g.inside; unit = g.unit; single = g.single }
-
 -- ---- a single byte begins no lone surrogate in a cell that is decoded
 
 pub legible_decoded : {c : Spelling} {raw : Bytes} → Legible c raw → ((q : ℕ) × (c ≡ Doubled q)) ⊎ (c ≡ Escaped) → Decoded c raw
-legible_decoded has_none (inl e) = let z : ◌≡◌ {A = ℕ} 0 1 = cc e.1 in absurd (omega arith)
-legible_decoded has_none (inr e) = let z : ◌≡◌ {A = ℕ} 0 1 = cc in absurd (omega arith)
-legible_decoded as_it_lies (inl e) = let z : ◌≡◌ {A = ℕ} 0 1 = cc e.1 in absurd (omega arith)
-legible_decoded as_it_lies (inr e) = let z : ◌≡◌ {A = ℕ} 0 1 = cc in absurd (omega arith)
-legible_decoded (decoded d) e = d
-
-pub decoded_short : {c : Spelling} {raw : Bytes} → Decoded c raw → length (content_in c raw) ≤ MAXRECORD
-decoded_short (by_doubled h l e) = l
-decoded_short (by_string l e) = l
+legible_decoded {c} {raw} h (inl e) =
+    let d : c ≡ Doubled e.0 = e.1 in
+    let p = h (λ f. let z : ◌≡◌ {A = ℕ} 0 1 = cc in absurd (omega arith)) (λ f. let z : ◌≡◌ {A = ℕ} 0 1 = cc in absurd (omega arith)) in
+    rw d (by_doubled (p.0 e.0 d) (rw d at p.1) p.2)
+legible_decoded {c} {raw} h (inr e) =
+    let p = h (λ f. let z : ◌≡◌ {A = ℕ} 0 1 = cc in absurd (omega arith)) (λ f. let z : ◌≡◌ {A = ℕ} 0 1 = cc in absurd (omega arith)) in
+    rw e (by_string (rw e at p.1) p.2)
 
 decoded_ed : {c : Spelling} {raw : Bytes} → Decoded c raw → EdFollowed raw
 decoded_ed (by_doubled h l e) = e

@@ -1,6 +1,6 @@
 -- Whether CSV+ quotes a content: a run holds nothing that needs quotes.
 use mathlib.Core.Path.{◌≡◌, refl, sym, ap, ap₂, ◌∙◌}
-use mathlib.Core.Bool.{Bool, true, false, ◌&&◌, ◌||◌, and-false, or-false, or_assoc}
+use mathlib.Core.Bool.{Bool, true, false, ◌||◌, or-false, or_assoc}
 use mathlib.Core.List.{[], ◌∷◌, ◌++◌}
 use Prim.Native.Nat.{ℕ, ◌+◌, ◌≤◌, ◌<◌}
 use native.Mathlib.Omega.{arith}
@@ -9,9 +9,9 @@ use lib.Seq.{take_at}
 use borrow.Author.Tests.{ne_eqb, leb-true}
 use Rattle.model.specs.declared.Settings.{Settings}
 use Rattle.model.specs.declared.Dialect.TheVariants.{CsvPlus}
-use Rattle.model.specs.rules.Base.{Bytes, choose◌then◌else◌, CR, LF, holds, is_empty, over}
+use Rattle.model.specs.rules.Base.{Bytes, choose◌then◌else◌, CR, LF, holds, over}
 use Rattle.model.specs.rules.Dialect.{quote_of, delimiter_of}
-use Rattle.model.specs.rules.Text.{special, begins_bom, quoted_text, csv_plus_cell, has_quotes}
+use Rattle.model.specs.rules.Text.{special, quoted_text, csv_plus_cell, has_quotes}
 use Rattle.model.proofs.Tests.{split_on}
 use Rattle.model.proofs.cell_laws.Utf8.{quote_ascii, delimiter_ascii}
 use Rattle.cell_decoder.specs.Units.{Unit, one, two, three, four}
@@ -107,35 +107,6 @@ pub held : (w old room : Bytes) (n : ℕ) → room ≡ over w old → n ≡ leng
 held w old room n e l =
     let f : take n room ≡ w = ap (take n) e ∙ take_at w (drop (length w) old) n (sym l) in
     record { front = f; inside = rw e (omega (arith, l, length-append w (drop (length w) old))); whole = l ∙ ap length (sym f) }
-
--- ---- the whole test
-
-empty : (c : Bytes) → length c ≡ 0 → is_empty c ≡ true
-empty [] e = refl
-empty (b ∷ c) e = absurd (omega arith)
-
-some : (c : Bytes) → (length c ≡ 0 → ⊥) → is_empty c ≡ false
-some [] h = absurd (h refl)
-some (b ∷ c) h = refl
-
-module _ (s : Settings) (only first : Bool) (c : Bytes) where
-  pub quotes_special : holds (special s) c ≡ true → has_quotes s only first c ≡ true
-  quotes_special e = rw e
-
-  pub quotes_empty : holds (special s) c ≡ false → only ≡ true → length c ≡ 0 → has_quotes s only first c ≡ true
-  quotes_empty e f l = rw (e, f, empty c l)
-
-  pub quotes_mark : holds (special s) c ≡ false → (only && is_empty c) ≡ false → first ≡ true → has_quotes s only first c ≡ begins_bom c
-  quotes_mark e f g = rw (e, f, g)
-
-  pub quotes_none : holds (special s) c ≡ false → (only && is_empty c) ≡ false → first ≡ false → has_quotes s only first c ≡ false
-  quotes_none e f g = rw (e, f, g)
-
-  pub not_only : only ≡ false → (only && is_empty c) ≡ false
-  not_only e = rw e
-
-  pub not_empty : (length c ≡ 0 → ⊥) → (only && is_empty c) ≡ false
-  not_empty h = rw (some c h) (and-false only)
 
 -- by this test CSV+ writes a cell in quotes
 pub cell_by : (s : Settings) (only first : Bool) (c : Bytes)

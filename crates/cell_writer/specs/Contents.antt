@@ -32,11 +32,11 @@ pub data Decoded : Spelling → Bytes → Type 0 where
   by_doubled : {q : ℕ} {raw : Bytes} → q ≤ 0x7F → length (content_in (Doubled q) raw) ≤ MAXRECORD → EdFollowed raw → Decoded (Doubled q) raw
   by_string : {raw : Bytes} → length (content_in Escaped raw) ≤ MAXRECORD → EdFollowed raw → Decoded Escaped raw
 
--- a cell whose content may be read: one like that, or any bytes where nothing is decoded
-pub data Legible : Spelling → Bytes → Type 0 where
-  has_none : {raw : Bytes} → Legible Nothing raw
-  as_it_lies : {raw : Bytes} → Legible AsItStands raw
-  decoded : {c : Spelling} {raw : Bytes} → Decoded c raw → Legible c raw
+-- a cell whose content may be read: any bytes where nothing is decoded, and otherwise as in `Decoded`
+abbrev pub Legible : Spelling → Bytes → Type 0
+Legible c raw =
+    (c ≡ Nothing → ⊥) → (c ≡ AsItStands → ⊥)
+    → ((q : ℕ) → c ≡ Doubled q → q ≤ 0x7F) × (length (content_in c raw) ≤ MAXRECORD) × EdFollowed raw
 
 -- `text` is the content at i, one unit or nothing, and it continues at `next`; a single byte ED is in the cell itself, before `next`
 pub record Part (c : Spelling) (raw : Bytes) (i : ℕ) (text : Bytes) (next : ℕ) : Type 0 where

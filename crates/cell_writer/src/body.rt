@@ -8,9 +8,10 @@ ghost use Rattle.buffer.specs.Writes.{Room, WrittenAt};
 ghost use Rattle.cell_decoder.specs.FirstByte.{content_in};
 ghost use Rattle.cell_decoder.specs.declared.first_byte.Spelling.TheVariants.{AsItStands};
 ghost use Rattle.cell_writer.specs.Units.{body_text, begins_lone, paired};
-ghost use Rattle.cell_writer.specs.Contents.{Legible, Decoded};
+ghost use Rattle.cell_writer.specs.Contents.{Decoded};
 ghost use Rattle.cell_writer.specs.Bodies.{Stops};
 
+use crate::unit::Encoded;
 use crate::{escape, unit};
 use buffer::short::Short;
 use cell_decoder::first_byte::Spelling;
@@ -61,12 +62,12 @@ fn content_stop(t: Dialect, content: &[u8], i: usize) -> Stop
 }
 
 // In a cell that has to be decoded.
-fn unit_stop(c: Spelling, t: Dialect, raw: &[u8], i: usize) -> Stop
-    requires i_in_bounds { i < length raw.now }
-    requires decoded { Decoded c raw.now }
-    ensures { Stops c t raw.now i result.text result.next result.lone }
+fn unit_stop(e: Encoded, t: Dialect, i: usize) -> Stop
+    requires i_in_bounds { i < length e.raw.now }
+    requires decoded { Decoded e.spelling e.raw.now }
+    ensures { Stops e.entry.spelling t e.entry.raw.now i result.text result.next result.lone }
 {
-    let u = unit::unit_at(c, raw, i);
+    let u = unit::unit_at(e.spelling, e.raw, i);
     if u.text.is_empty() {
         return Stop {
             text: Short::new([0; 6], 0),
@@ -81,14 +82,13 @@ fn unit_stop(c: Spelling, t: Dialect, raw: &[u8], i: usize) -> Stop
     }
 }
 
-fn stop_text(c: Spelling, t: Dialect, raw: &[u8], i: usize) -> Stop
-    requires i_in_bounds { i < length raw.now }
-    requires legible { Legible c raw.now }
-    ensures { Stops c t raw.now i result.text result.next result.lone }
+fn stop_text(e: Encoded, t: Dialect, i: usize) -> Stop
+    requires { i < length e.raw.now }
+    ensures { Stops e.entry.spelling t e.entry.raw.now i result.text result.next result.lone }
 {
-    match c {
-        Spelling::Nothing | Spelling::AsItStands => content_stop(t, raw, i),
-        Spelling::Doubled(_) | Spelling::Escaped => unit_stop(c, t, raw, i),
+    match e.spelling {
+        Spelling::Nothing | Spelling::AsItStands => content_stop(t, e.raw, i),
+        Spelling::Doubled(_) | Spelling::Escaped => unit_stop(e, t, i),
     }
 }
 
@@ -103,22 +103,15 @@ pub struct Body {
 }
 
 // The content of the cell at an offset of the buffer, or only measured from there.
-pub fn write_body(
-    c: Spelling,
-    t: Dialect,
-    raw: &[u8],
-    out: &mut [u8],
-    at: usize,
-    write: bool,
-) -> Body
-    requires legible { Legible c raw.now }
-    requires room { Room write at (body_text t (content_in c raw.now)) out.old }
-    ensures written_at { WrittenAt write out.old at (body_text t (content_in c raw.now)) out.new result.end }
-    ensures lone_value { result.lone ≡ holds_lone (content_in c raw.now) }
+pub fn write_body(e: Encoded, t: Dialect, out: &mut [u8], at: usize, write: bool) -> Body
+    requires { Room write at (body_text t (content_in e.spelling e.raw.now)) out.old }
+    ensures written_at { WrittenAt write out.old at (body_text t (content_in e.entry.spelling e.entry.raw.now)) out.new result.end }
+    ensures lone_value { result.lone ≡ holds_lone (content_in e.entry.spelling e.entry.raw.now) }
 {
     let p = cell_lexer::quote_of(t);
-    let q = unit::quote_in(c);
-    let mut i = unit::content_start(c, raw);
+    let q = unit::quote_in(e.spelling);
+    let raw = e.raw;
+    let mut i = unit::content_start(e.spelling, raw);
     let mut o = at;
     let mut lone = false;
     // No `for`: a run and a stop have any length.
@@ -128,7 +121,7 @@ pub fn write_body(
         if raw.len() <= j {
             return Body { end: o, lone };
         }
-        let x = stop_text(c, t, raw, j);
+        let x = stop_text(e, t, j);
         o = buffer::emit(out, o, x.text.as_slice(), write);
         i = x.next;
         lone |= x.lone;

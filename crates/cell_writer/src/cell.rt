@@ -8,11 +8,12 @@ ghost use Rattle.model.specs.rules.Utf8.{holds_lone};
 ghost use Rattle.model.specs.rules.Text.{is_text, cell_text};
 ghost use Rattle.buffer.specs.Writes.{Room, WrittenAt};
 ghost use Rattle.cell_decoder.specs.FirstByte.{content_in};
-ghost use Rattle.cell_decoder.specs.Sources.{content_by, Encoded};
-ghost use Rattle.cell_writer.specs.Contents.{Legible};
+ghost use Rattle.cell_decoder.specs.Sources as sources;
+ghost use Rattle.cell_decoder.specs.Sources.{content_by};
 ghost use Rattle.cell_writer.specs.Cells.{is_quoted, quote_by, text_cell, number_in, written_as, word_for, value_of};
 
 use crate::body::Body;
+use crate::unit::Encoded;
 use crate::{body, special};
 use cell_decoder::first_byte::Spelling;
 use cell_decoder::source;
@@ -21,13 +22,12 @@ use model::{Dialect, Kind};
 
 // ---- texts
 
-fn is_quoted(c: Spelling, t: Dialect, raw: &[u8], only: bool, first: bool) -> bool
-    requires { Legible c raw.now }
-    ensures { result ≡ is_quoted t only first (content_in c raw.now) }
+fn is_quoted(e: Encoded, t: Dialect, only: bool, first: bool) -> bool
+    ensures { result ≡ is_quoted t only first (content_in e.entry.spelling e.entry.raw.now) }
 {
     match t {
         Dialect::Csvj | Dialect::Tdif => true,
-        Dialect::CsvPlus(s) => special::is_quoted(s, c, raw, only, first),
+        Dialect::CsvPlus(s) => special::is_quoted(s, e, only, first),
     }
 }
 
@@ -43,23 +43,21 @@ fn write_quote(quoted: bool, t: Dialect, out: &mut [u8], o: usize, write: bool) 
 }
 
 fn write_text(
-    c: Spelling,
+    e: Encoded,
     t: Dialect,
-    raw: &[u8],
     only: bool,
     first: bool,
     out: &mut [u8],
     o: usize,
     write: bool,
 ) -> Body
-    requires legible { Legible c raw.now }
-    requires room { Room write o (text_cell t only first (content_in c raw.now)) out.old }
-    ensures written_at { WrittenAt write out.old o (text_cell t only first (content_in c raw.now)) out.new result.end }
-    ensures lone_value { result.lone ≡ holds_lone (content_in c raw.now) }
+    requires { Room write o (text_cell t only first (content_in e.spelling e.raw.now)) out.old }
+    ensures written_at { WrittenAt write out.old o (text_cell t only first (content_in e.entry.spelling e.entry.raw.now)) out.new result.end }
+    ensures lone_value { result.lone ≡ holds_lone (content_in e.entry.spelling e.entry.raw.now) }
 {
-    let quoted = is_quoted(c, t, raw, only, first);
+    let quoted = is_quoted(e, t, only, first);
     let from = write_quote(quoted, t, out, o, write);
-    let b = body::write_body(c, t, raw, out, from, write);
+    let b = body::write_body(e, t, out, from, write);
     let end = write_quote(quoted, t, out, b.end, write);
     Body { end, lone: b.lone }
 }
@@ -160,15 +158,18 @@ pub fn write_cell(
     o: usize,
     write: bool,
 ) -> Body
-    requires encoded { Encoded src kind raw.now }
+    requires encoded { sources.Encoded src kind raw.now }
     requires room { Room write o (cell_text t only first (value_of src kind raw.now)) out.old }
     ensures written_at { WrittenAt write out.old o (cell_text t only first (value_of src kind raw.now)) out.new result.end }
     ensures lone_value { is_text kind ≡ true → is_csvj t ≡ false → result.lone ≡ holds_lone (content_by src raw.now) }
 {
     match form_in(t, kind) {
         WrittenForm::AsText => {
-            let c = source::spelling_in(src, raw);
-            write_text(c, t, raw, only, first, out, o, write)
+            let e = Encoded {
+                spelling: source::spelling_in(src, raw),
+                raw,
+            };
+            write_text(e, t, only, first, out, o, write)
         }
         WrittenForm::AsNumber => {
             let c = source::spelling_in(src, raw);

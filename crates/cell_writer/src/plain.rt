@@ -18,12 +18,9 @@ fn single_steps(s: &[u8], at: usize, p: u8, q: u8, r: u8) -> usize
     ensures { result ≡ at + plain_run p q r (drop at s.now) }
 {
     let mut i = at;
-    while i < s.len() {
-        if is_plain(p, q, r, s[i]) {
-            i += 1;
-        } else {
-            return i;
-        }
+    // No `position`: a run up to the end of the slice would be a case of its own.
+    while i < s.len() && is_plain(p, q, r, s[i]) {
+        i += 1;
     }
     i
 }
@@ -46,6 +43,7 @@ fn word_steps(s: &[u8], at: usize, p: u8, q: u8) -> usize
     ensures { result ≡ at + plain_run p q q (drop at s.now) }
 {
     let mut i = at;
+    // No `chunks`: a flag ends the run within its word.
     while 8 <= s.len() - i {
         let flags = unplain(swar::word(s, i), p, q);
         if flags != 0 {

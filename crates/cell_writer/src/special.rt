@@ -6,9 +6,10 @@ ghost use Rattle.model.specs.rules.Base.{holds};
 ghost use Rattle.model.specs.rules.Text.{special, begins_bom, has_quotes};
 ghost use Rattle.cell_decoder.specs.Units.{Unit};
 ghost use Rattle.cell_decoder.specs.FirstByte.{content_in};
-ghost use Rattle.cell_writer.specs.Contents.{Decoded, Legible};
+ghost use Rattle.cell_writer.specs.Contents.{Decoded};
 
 use crate::unit;
+use crate::unit::Encoded;
 use cell_decoder::content;
 use cell_decoder::first_byte::Spelling;
 use codes::MAX_RECORD;
@@ -18,10 +19,7 @@ fn is_special(s: Settings, b: u8) -> bool
     ensures { result ≡ special s b }
 {
     let t = Dialect::CsvPlus(s);
-    b == cell_lexer::quote_of(t)
-        || b == cell_lexer::delimiter_of(t)
-        || b == b'\r'
-        || b == b'\n'
+    b == cell_lexer::quote_of(t) || b == cell_lexer::delimiter_of(t) || b == b'\r' || b == b'\n'
 }
 
 // Whether a unit needs quotes: only a single byte may.
@@ -62,33 +60,31 @@ fn is_bom(content: &[u8]) -> bool
 }
 
 // The content of a cell that has to be decoded is at most a record long.
-fn decodes_to_bom(c: Spelling, raw: &[u8]) -> bool
-    requires { Decoded c raw.now }
-    ensures { result ≡ begins_bom (content_in c raw.now) }
+fn decodes_to_bom(e: Encoded) -> bool
+    requires { Decoded e.spelling e.raw.now }
+    ensures { result ≡ begins_bom (content_in e.entry.spelling e.entry.raw.now) }
 {
     let mut room = [0u8; MAX_RECORD];
-    content::write_in(c, raw, &mut room);
-    let size = content::length_in(c, raw);
+    content::write_in(e.spelling, e.raw, &mut room);
+    let size = content::length_in(e.spelling, e.raw);
     is_bom(&room[..size])
 }
 
-fn begins_with_bom(c: Spelling, raw: &[u8]) -> bool
-    requires { Legible c raw.now }
-    ensures { result ≡ begins_bom (content_in c raw.now) }
+fn begins_with_bom(e: Encoded) -> bool
+    ensures { result ≡ begins_bom (content_in e.entry.spelling e.entry.raw.now) }
 {
-    match c {
+    match e.spelling {
         Spelling::Nothing => false,
-        Spelling::AsItStands => is_bom(raw),
-        Spelling::Doubled(_) | Spelling::Escaped => decodes_to_bom(c, raw),
+        Spelling::AsItStands => is_bom(e.raw),
+        Spelling::Doubled(_) | Spelling::Escaped => decodes_to_bom(e),
     }
 }
 
 // Whether a cell of this content is in quotes. `only`: its record has no other cell; `first`: it is the first header cell.
-pub fn is_quoted(s: Settings, c: Spelling, raw: &[u8], only: bool, first: bool) -> bool
-    requires { Legible c raw.now }
-    ensures { result ≡ has_quotes s only first (content_in c raw.now) }
+pub fn is_quoted(s: Settings, e: Encoded, only: bool, first: bool) -> bool
+    ensures { result ≡ has_quotes s only first (content_in e.entry.spelling e.entry.raw.now) }
 {
-    holds_special(s, c, raw)
-        || only && content::length_in(c, raw) == 0
-        || first && begins_with_bom(c, raw)
+    holds_special(s, e.spelling, e.raw)
+        || only && content::length_in(e.spelling, e.raw) == 0
+        || first && begins_with_bom(e)
 }

@@ -3,11 +3,19 @@
 ghost use Rattle.std.specs.Prelude.{◌≡◌, ◌<◌, length};
 ghost use Rattle.cell_decoder.specs.FirstByte.{content_in};
 ghost use Rattle.cell_decoder.specs.declared.first_byte.Spelling.TheVariants.{Doubled, Escaped};
-ghost use Rattle.cell_writer.specs.Contents.{content_from, source_quote, Part};
+ghost use Rattle.cell_writer.specs.Contents.{content_from, source_quote, Legible, Part};
 
-use cell_decoder::escape;
 use cell_decoder::escape::Unescaped;
 use cell_decoder::first_byte::Spelling;
+use cell_decoder::{content, escape};
+
+// The bytes of a cell, and how its content is encoded in them. A content that has to be decoded is that of a sound cell.
+#[derive(Clone, Copy)]
+pub struct Encoded<'a> {
+    pub spelling: Spelling,
+    pub raw: &'a [u8],
+    ghost legible: { Legible spelling raw.now },
+}
 
 // Where the content begins: for a cell without content, at its end.
 pub fn content_start(c: Spelling, raw: &[u8]) -> usize
@@ -30,19 +38,14 @@ pub fn quote_in(c: Spelling) -> u8
     }
 }
 
-// Two quotes are one quote of content, and a single quote ends the content.
 fn doubled_at(q: u8, raw: &[u8], i: usize) -> Unescaped
     requires { i < length raw.now }
     ensures { Part (Doubled q) raw.now i result.text result.next }
 {
-    let b = raw[i];
-    if b != q {
-        return Unescaped::byte(b, i + 1);
+    match content::undoubled_at(q, raw, i) {
+        Some((b, next)) => Unescaped::byte(b, next),
+        None => Unescaped::end_of(raw),
     }
-    if raw.len() - i < 2 || raw[i + 1] != q {
-        return Unescaped::end_of(raw);
-    }
-    Unescaped::byte(b, i + 2)
 }
 
 fn string_at(raw: &[u8], i: usize) -> Unescaped

@@ -7,8 +7,8 @@ use lib.ListN.{length, drop}
 use Rattle.model.specs.rules.Decode.{undouble}
 use Rattle.cell_decoder.proofs.content.undoubled_length.Given as goal
 
-abbrev pub invariant-loop-i : goal.invariant-loop-i
-invariant-loop-i l = (l.n < l.i) × (l.n + length (undouble l.q false (drop l.i l.raw)) ≡ length (undouble l.q false (drop 1 l.raw)))
+abbrev pub invariant-loop-next : goal.invariant-loop-next
+invariant-loop-next l = (l.n < l.i) × (l.n + length (undouble l.q false (drop l.i l.raw)) ≡ length (undouble l.q false (drop 1 l.raw)))
 
-abbrev pub decreases-loop-i : goal.decreases-loop-i
-decreases-loop-i l = length l.raw - l.i
+abbrev pub decreases-loop-next : goal.decreases-loop-next
+decreases-loop-next l = length l.raw - l.i

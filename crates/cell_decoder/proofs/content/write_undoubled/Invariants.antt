@@ -6,8 +6,8 @@ use Rattle.model.specs.rules.Decode.{undouble}
 use Rattle.buffer.proofs.WriteProgress.{Writing}
 use Rattle.cell_decoder.proofs.content.write_undoubled.Given as goal
 
-abbrev pub invariant-loop-i : goal.invariant-loop-i
-invariant-loop-i l = Writing l.initial.out 0 (undouble l.q false (drop 1 l.raw)) l.out l.o (undouble l.q false (drop l.i l.raw))
+abbrev pub invariant-loop-b : goal.invariant-loop-b
+invariant-loop-b l = Writing l.initial.out 0 (undouble l.q false (drop 1 l.raw)) l.out l.o (undouble l.q false (drop l.i l.raw))
 
-abbrev pub decreases-loop-i : goal.decreases-loop-i
-decreases-loop-i l = length l.raw - l.i
+abbrev pub decreases-loop-b : goal.decreases-loop-b
+decreases-loop-b l = length l.raw - l.i

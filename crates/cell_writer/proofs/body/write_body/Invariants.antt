@@ -12,8 +12,8 @@ use Rattle.cell_writer.specs.Contents.{content_from}
 use Rattle.cell_writer.proofs.body.write_body.Given as goal
 
 abbrev pub invariant-loop-i : goal.invariant-loop-i
-invariant-loop-i l = Emitting l.write l.initial.out l.at (body_text l.t (content_in l.c l.raw)) l.out l.o
-    (body_text l.t (content_from l.c l.raw l.i)) × (holds_lone (content_in l.c l.raw) ≡ (l.lone || holds_lone (content_from l.c l.raw l.i)))
+invariant-loop-i l = Emitting l.write l.initial.out l.at (body_text l.t (content_in l.fn.e.spelling l.raw)) l.out l.o
+    (body_text l.t (content_from l.fn.e.spelling l.raw l.i)) × (holds_lone (content_in l.fn.e.spelling l.raw) ≡ (l.lone || holds_lone (content_from l.fn.e.spelling l.raw l.i)))
 
 abbrev pub decreases-loop-i : goal.decreases-loop-i
 decreases-loop-i l = length l.raw - l.i

@@ -12,36 +12,36 @@ use Rattle.cell_writer.proofs.cell.write_text.Goals as goal
 pub write_quote-from-requires : goal.write_quote-from-requires
 write_quote-from-requires c =
     let a = c.args in
-    let body = body_text a.t (content_in a.c a.raw.now) in
+    let body = body_text a.t (content_in a.e.spelling a.e.raw.now) in
     let quote = quote_by a.t c.is_quoted-quoted.result in
-    let parts : text_cell a.t a.only a.first (content_in a.c a.raw.now) ≡ quote ++ (body ++ quote) =
-    text_parts a.t a.only a.first (content_in a.c a.raw.now) ∙ ap (λ (q : Bool). quote_by a.t q ++ (body ++ quote_by a.t q)) (sym c.is_quoted-quoted.ensures) in
+    let parts : text_cell a.t a.only a.first (content_in a.e.spelling a.e.raw.now) ≡ quote ++ (body ++ quote) =
+    text_parts a.t a.only a.first (content_in a.e.spelling a.e.raw.now) ∙ ap (λ (q : Bool). quote_by a.t q ++ (body ++ quote_by a.t q)) (sym c.is_quoted-quoted.ensures) in
     let first : Emitting a.write a.out.now a.o (quote ++ (body ++ quote)) a.out.now a.o (quote ++ (body ++ quote)) =
-    emitting a.write (room_as (sym parts) c.requires.room) in
+    emitting a.write (room_as (sym parts) c.requires) in
     room_next quote (body ++ quote) first
 
 pub write_body-b-requires : goal.write_body-b-requires
 write_body-b-requires c =
     let a = c.args in
-    let body = body_text a.t (content_in a.c a.raw.now) in
+    let body = body_text a.t (content_in a.e.spelling a.e.raw.now) in
     let quote = quote_by a.t c.is_quoted-quoted.result in
-    let parts : text_cell a.t a.only a.first (content_in a.c a.raw.now) ≡ quote ++ (body ++ quote) =
-    text_parts a.t a.only a.first (content_in a.c a.raw.now) ∙ ap (λ (q : Bool). quote_by a.t q ++ (body ++ quote_by a.t q)) (sym c.is_quoted-quoted.ensures) in
+    let parts : text_cell a.t a.only a.first (content_in a.e.spelling a.e.raw.now) ≡ quote ++ (body ++ quote) =
+    text_parts a.t a.only a.first (content_in a.e.spelling a.e.raw.now) ∙ ap (λ (q : Bool). quote_by a.t q ++ (body ++ quote_by a.t q)) (sym c.is_quoted-quoted.ensures) in
     let first : Emitting a.write a.out.now a.o (quote ++ (body ++ quote)) a.out.now a.o (quote ++ (body ++ quote)) =
-    emitting a.write (room_as (sym parts) c.requires.room) in
+    emitting a.write (room_as (sym parts) c.requires) in
     let second : Emitting a.write a.out.now a.o (quote ++ (body ++ quote)) c.write_quote-from.new.out c.write_quote-from.result (body ++ quote) =
     put_next quote first c.write_quote-from.ensures in
-    record { legible = c.requires.legible; room = room_next body quote second }
+    room_next body quote second
 
 pub write_quote-end-requires : goal.write_quote-end-requires
 write_quote-end-requires c =
     let a = c.args in
-    let body = body_text a.t (content_in a.c a.raw.now) in
+    let body = body_text a.t (content_in a.e.spelling a.e.raw.now) in
     let quote = quote_by a.t c.is_quoted-quoted.result in
-    let parts : text_cell a.t a.only a.first (content_in a.c a.raw.now) ≡ quote ++ (body ++ quote) =
-    text_parts a.t a.only a.first (content_in a.c a.raw.now) ∙ ap (λ (q : Bool). quote_by a.t q ++ (body ++ quote_by a.t q)) (sym c.is_quoted-quoted.ensures) in
+    let parts : text_cell a.t a.only a.first (content_in a.e.spelling a.e.raw.now) ≡ quote ++ (body ++ quote) =
+    text_parts a.t a.only a.first (content_in a.e.spelling a.e.raw.now) ∙ ap (λ (q : Bool). quote_by a.t q ++ (body ++ quote_by a.t q)) (sym c.is_quoted-quoted.ensures) in
     let first : Emitting a.write a.out.now a.o (quote ++ (body ++ quote)) a.out.now a.o (quote ++ (body ++ quote)) =
-    emitting a.write (room_as (sym parts) c.requires.room) in
+    emitting a.write (room_as (sym parts) c.requires) in
     let second : Emitting a.write a.out.now a.o (quote ++ (body ++ quote)) c.write_quote-from.new.out c.write_quote-from.result (body ++ quote) =
     put_next quote first c.write_quote-from.ensures in
     let third : Emitting a.write a.out.now a.o (quote ++ (body ++ quote)) c.write_body-b.new.out c.write_body-b.result.end quote =
@@ -51,12 +51,12 @@ write_quote-end-requires c =
 pub returns : goal.returns
 returns c =
     let a = c.args in
-    let body = body_text a.t (content_in a.c a.raw.now) in
+    let body = body_text a.t (content_in a.e.spelling a.e.raw.now) in
     let quote = quote_by a.t c.is_quoted-quoted.result in
-    let parts : text_cell a.t a.only a.first (content_in a.c a.raw.now) ≡ quote ++ (body ++ quote) =
-    text_parts a.t a.only a.first (content_in a.c a.raw.now) ∙ ap (λ (q : Bool). quote_by a.t q ++ (body ++ quote_by a.t q)) (sym c.is_quoted-quoted.ensures) in
+    let parts : text_cell a.t a.only a.first (content_in a.e.spelling a.e.raw.now) ≡ quote ++ (body ++ quote) =
+    text_parts a.t a.only a.first (content_in a.e.spelling a.e.raw.now) ∙ ap (λ (q : Bool). quote_by a.t q ++ (body ++ quote_by a.t q)) (sym c.is_quoted-quoted.ensures) in
     let first : Emitting a.write a.out.now a.o (quote ++ (body ++ quote)) a.out.now a.o (quote ++ (body ++ quote)) =
-    emitting a.write (room_as (sym parts) c.requires.room) in
+    emitting a.write (room_as (sym parts) c.requires) in
     let second : Emitting a.write a.out.now a.o (quote ++ (body ++ quote)) c.write_quote-from.new.out c.write_quote-from.result (body ++ quote) =
     put_next quote first c.write_quote-from.ensures in
     let third : Emitting a.write a.out.now a.o (quote ++ (body ++ quote)) c.write_body-b.new.out c.write_body-b.result.end quote =

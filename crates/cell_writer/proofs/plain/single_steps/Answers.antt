@@ -11,13 +11,13 @@ loop-i-preserved c =
           (sym c.is_plain.ensures ∙ c.if-is_plain.true),
     )
 
+pub returns-after-loop-i : goal.returns-after-loop-i
+returns-after-loop-i c =
+    let a = c.args in
+    sym (c.loop-i.invariant.1 ∙ run_ends a.p a.q a.r a.s.now c.loop-i.i c.loop-i-test.false)
+
 pub returns-else-is_plain : goal.returns-else-is_plain
 returns-else-is_plain c =
     let a = c.args in
     sym (c.loop-i.invariant.1 ∙ run_stops a.p a.q a.r a.s.now c.loop-i.i c.loop-i-test.true
     (sym c.is_plain.ensures ∙ c.if-is_plain.false))
-
-pub returns : goal.returns
-returns c =
-    let a = c.args in
-    sym (c.loop-i.invariant.1 ∙ run_ends a.p a.q a.r a.s.now c.loop-i.i c.loop-i-test.false)

@@ -1,0 +1,16 @@
+-- Text with doubled quotes, a byte at a time.
+use Rattle.std.specs.Prelude.{ℕ, ◌-◌, ◌<◌, ◌≤◌, ◌≡◌, false, Option, Some, None, [], ◌∷◌, length, drop, get_or}
+use Rattle.model.specs.rules.Base.{Bytes}
+use Rattle.model.specs.rules.Decode.{undouble}
+
+-- the text at i is the byte b and the text from next on; b is also the raw byte before next
+pub record UndoubledThere (q : ℕ) (raw : Bytes) (i b next : ℕ) : Type 0 where
+  pub stands : undouble q false (drop i raw) ≡ b ∷ undouble q false (drop next raw)
+  pub on : i < next
+  pub inside : next ≤ length raw
+  pub last : get_or raw (next - 1) 0 ≡ b
+
+-- the byte at i with the offset where the text continues, or none at the end of the text
+abbrev pub UndoubledAt : ℕ → Bytes → ℕ → Option (ℕ × ℕ) → Type 0
+UndoubledAt q raw i None = undouble q false (drop i raw) ≡ []
+UndoubledAt q raw i (Some p) = UndoubledThere q raw i p.0 p.1
