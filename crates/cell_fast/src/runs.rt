@@ -36,6 +36,7 @@ pub fn clean_words(s: &[u8], at: usize, stop: usize, p: u8, q: u8) -> CleanWords
     ensures words { PassRun (clean_ascii p q) s.now at stop result.end }
     ensures flags { IfSome result.flags (FlaggedRun (clean_ascii p q) s.now at stop result.end) }
 {
+    // The loop counts the offset, since the end is an offset.
     let mut i = at;
     while 8 <= stop - i {
         let flags = swar::unclean(swar::word(s, i), p, q);
