@@ -2,7 +2,7 @@
 use Prim.Native.Nat.{ℕ, suc, ◌+◌, ◌-◌, ◌≤◌, ◌<◌}
 use native.Mathlib.Omega.{arith}
 use mathlib.Core.Path.{◌≡◌, refl, ap, ◌∙◌}
-use mathlib.Core.Bool.{Bool, true, false}
+use mathlib.Core.Bool.{Bool, true}
 use mathlib.Core.List.{[], ◌∷◌, ◌++◌}
 use lib.ListN.{length, drop, get_or, length-drop}
 use lib.Seq.{length-take-le}
@@ -12,20 +12,19 @@ use Rattle.model.specs.declared.Char.TheVariants.{Whole}
 use Rattle.std.specs.Prelude.{Option}
 use Rattle.std.specs.Prelude.{Some, None}
 use Rattle.model.specs.declared.Cell.{Cell}
-use Rattle.model.specs.declared.Cell.TheVariants.{Fresh}
 use Rattle.model.specs.declared.CellStep.TheVariants.{More, Stop}
 use Rattle.model.specs.rules.Base.{Bytes}
 use Rattle.model.specs.rules.Utf8.{char_step}
 use Rattle.model.specs.rules.Cell.{cell_step}
 use Rattle.model.specs.rules.Api.{slice}
-use Rattle.model.proofs.Tests.{and_true, impossible}
+use Rattle.model.proofs.Tests.{and_true}
 use Rattle.model.proofs.cell_laws.Utf8.{broken_on}
 use Rattle.swar.specs.Words.{all_pass}
 use Rattle.utf8.specs.Multibyte.{chars_from}
 use Rattle.utf8.proofs.MultibyteRuns.{part_join}
 use Rattle.cell_scanner.specs.Run.{cell_run}
 use Rattle.cell_scanner.proofs.Runs.{rest_more, rest_stops}
-use Rattle.cell_fast.specs.Ends.{EndsFrom, EndsBefore, FoundSound}
+use Rattle.cell_fast.specs.Ends.{EndsFrom}
 use Rattle.cell_fast.specs.TextRuns.{TextRun}
 use Rattle.cell_fast.specs.CellOutcome.{Results}
 
@@ -52,12 +51,6 @@ module _ {d : Dialect} {s : Bytes} {stop : ℕ} {c t : Cell} {at i : ℕ} (x : R
 pub results_ends : {d : Dialect} {s : Bytes} {stop : ℕ} {c t : Cell} {at i end : ℕ} → Results d s stop c at t i → EndsFrom d s stop t i end
     → EndsFrom d s stop c at end
 results_ends x y = record { cell = y.cell; ran = x.rest ∙ y.ran }
-
--- ---- the result of the fast path
-
--- for a cell that is not verbatim
-pub value_found : {d : Dialect} {s : Bytes} {at stop end : ℕ} → EndsBefore d s stop Fresh at end → FoundSound d s at stop (record { at = end; clean = false })
-value_found x = record { before = x.before; ends = x.ends; content = λ e. impossible e }
 
 -- ---- bytes that lead from one cell state to another by the UTF-8 state of a text
 

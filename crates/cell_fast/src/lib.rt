@@ -66,9 +66,9 @@ fn quoted_end(d: Dialect, q: u8, s: &[u8], at: usize, stop: usize) -> Option<Fou
 {
     let words = runs::clean_words(s, at + 1, stop, q, q);
     let from = words.end;
-    if let Some(clean) = words.rest {
+    if let Some(flags) = words.flags {
         let n = swar::guess(swar::word(s, from), q);
-        if n == clean && closes(d, q, s, from + n, stop) {
+        if n < 8 && n == swar::before_flag(flags) && closes(d, q, s, from + n, stop) {
             return Some(FoundEnd {
                 at: from + n + 1,
                 clean: true,

@@ -108,7 +108,8 @@ pub fn quoted_text(d: Dialect, s: &[u8], at: usize, stop: usize, q: u8) -> TextE
     }
 }
 
-// The end of the text of an unquoted cell from `at`, at most `stop`.
+// The end of the text of an unquoted cell from `at`, at most `stop`. It passes no escape and no quote, so that it shares the run alone with
+// `quoted_text`.
 pub fn plain_text(s: &[u8], at: usize, stop: usize, p: u8, q: u8) -> usize
     requires { (at ≤ stop) × (stop ≤ length s.now) × (p < 0x80) × (q < 0x80) }
     ensures { TextRun (is_open p q) s.now at stop result }

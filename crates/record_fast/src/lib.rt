@@ -116,6 +116,7 @@ pub fn scan(
     let mut clean = q == b'"';
     let mut at = start;
     let mut n: usize = 0;
+    // `at` moves by whole cells. On fallback the cell at `at` must not be in the lists, so each branch stores it.
     while at < stop {
         let found = cell_fast::cell_end(d, p, q, part, at, stop)?;
         let e = found.at;

@@ -57,6 +57,7 @@ pub fn scan(
         opened: from,
         cells: 0,
     };
+    // i moves by whole tokens.
     while i < part.len() {
         if limit <= i {
             return ScanOutcome::Failed {

@@ -59,7 +59,7 @@ fn limit_end(total: usize, i: usize, size: usize, limit: usize) -> usize
     total.min(limit).min(i + (MAX_RECORD - size))
 }
 
-// The end of a comment's ordinary bytes, if reading is in one.
+// The end of a comment's ordinary bytes, if reading is in one; a run of none ends at i.
 fn comment_end(f: FileState, part: &[u8], i: usize, limit: usize) -> usize
     requires { (i < length part.now) × (i < limit) }
     ensures { result ≡ comment_end f part.now limit i }

@@ -6,8 +6,9 @@ use Rattle.cell_fast.proofs.quoted_end.Goals as goal
 
 pub returns-then-closes : goal.returns-then-closes
 returns-then-closes c =
-    let more = rw c.in-Some.is at c.clean_words-words.ensures.more in
-    let passed = rw (← c.if-n-clean.true) at more.2 in
+    let flagged = rw c.in-Some.is at c.clean_words-words.ensures.flags in
+    let same = c.if-n-before_flag.true ∙ c.before_flag.ensures in
+    let passed = rw (← same) at flagged.run in
     quoted_found c.requires.0 c.requires.1 (c.requires.3 ∙ c.requires.2) (quoted_run c.args.d c.args.q c.requires.2 c.requires.1 passed)
     (c.closes.ensures c.if-closes.true)
 
