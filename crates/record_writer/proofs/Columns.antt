@@ -26,24 +26,19 @@ use Rattle.buffer.proofs.WriteProgress.{Emitting, emitting, put_next, put_whole}
 use Rattle.cell_decoder.specs.declared.source.Source.{Source}
 use Rattle.cell_decoder.specs.Sources.{cells_in}
 use Rattle.cell_decoder.proofs.CellsIn.{cells_length, cell_at, cells_from, cells_next, cells_end}
+use Rattle.record_writer.specs.Joined.{before}
 use Rattle.record_writer.specs.Columns.{before_cell, is_first, column_text, uncarried_cell, check_of}
 
 -- ---- one cell
 
--- a delimiter is before a cell that is not the first
-pub before_later : (t : Dialect) (n : ℕ) → (n ≡ 0 → ⊥) → before_cell t n ≡ delimiter_of t ∷ []
-before_later t zero h = absurd (h refl)
-before_later t (suc n) h = refl
+-- the delimiter before a cell, by its byte
+pub before_by : (t : Dialect) (n : ℕ) → before (delimiter_of t) n ≡ before_cell t n
+before_by t zero = refl
+before_by t (suc n) = refl
 
 pub later_first : (n : ℕ) (header : Bool) → (n ≡ 0 → ⊥) → is_first n header ≡ false
 later_first zero header h = absurd (h refl)
 later_first (suc n) header h = refl
-
--- nothing is before the first
-pub first_written :
-    (write : Bool) (t : Dialect) (n : ℕ) {o : ℕ} {out : Bytes} → n ≡ 0 → Room write o (before_cell t n) out →
-    WrittenAt write out o (before_cell t n) out o
-first_written write t n e p = rw e (put_whole (emitting write (rw e at p)))
 
 -- a cell's text does not depend on its place
 pub cell_anywhere : (t : Dialect) (only first : Bool) (v w : Value) → v.kind ≡ w.kind → v.content ≡ w.content

@@ -12,7 +12,7 @@ use model::Dialect;
 mod check;
 pub mod plus;
 pub mod quoted;
-mod quotes;
+pub(crate) mod quotes;
 
 // Whether each cell of a record is verbatim. The first that is not ends the loop.
 fn is_clean(d: Dialect, s: &[u8], starts: &[usize], ends: &[usize]) -> bool
@@ -23,14 +23,12 @@ fn is_clean(d: Dialect, s: &[u8], starts: &[usize], ends: &[usize]) -> bool
         return false;
     }
     let bare = check::may_be_bare(d);
-    let mut n = 0;
-    while n < starts.len() {
+    for n in 0..starts.len() {
         let from = starts[n];
         let upto = ends[n];
         if !check::is_clean(bare, &s[from..upto]) {
             return false;
         }
-        n += 1;
     }
     true
 }

@@ -11,9 +11,10 @@ ghost use Rattle.model.specs.rules.Records.{◌or_else◌, has_kind, uncarried_f
 ghost use Rattle.buffer.specs.Writes.{Room, WrittenAt};
 ghost use Rattle.cell_decoder.specs.Sources.{kind_from, content_by, cells_in, Encoded, Cells};
 ghost use Rattle.cell_writer.specs.Cells.{value_of};
-ghost use Rattle.record_writer.specs.Columns.{before_cell, is_first, column_text, uncarried_cell, check_of};
+ghost use Rattle.record_writer.specs.Columns.{is_first, column_text, uncarried_cell, check_of};
 ghost use Rattle.record_writer.specs.Verbatim.{Direct};
 
+use crate::clean::quotes;
 use crate::verbatim;
 use cell_decoder::source;
 use cell_decoder::source::Source;
@@ -35,11 +36,8 @@ fn tdif_has_kind(k: Kind) -> bool
     ensures { result ≡ has_kind Tdif k }
 {
     match k {
-        Kind::Text => true,
-        Kind::Number => false,
-        Kind::True => false,
-        Kind::False => false,
-        Kind::Null => true,
+        Kind::Text | Kind::Null => true,
+        Kind::Number | Kind::True | Kind::False => false,
     }
 }
 
@@ -105,23 +103,10 @@ fn check_result(said: FirstFault) -> Result<(), Fault>
 
 // ---- columns
 
-fn write_delimiter(t: Dialect, n: usize, out: &mut [u8], o: usize, write: bool) -> usize
-    requires { Room write o (before_cell t n) out.old }
-    ensures { WrittenAt write out.old o (before_cell t n) out.new result }
-{
-    if n == 0 {
-        return o;
-    }
-    buffer::emit_byte(out, o, cell_lexer::delimiter_of(t), write)
-}
-
 fn is_first(n: usize, header: bool) -> bool
     ensures { result ≡ is_first n header }
 {
-    if n == 0 {
-        return header;
-    }
-    false
+    n == 0 && header
 }
 
 // The cell at place n, with a delimiter before it unless it is the first. Here a cell passes from reading to writing (`carried` of model's
@@ -145,7 +130,7 @@ fn write_column(
     ensures written_at { WrittenAt write out.old at (column_text t n only header (value_of src (kind_from number) raw.now)) out.new result.end }
     ensures lone_value { is_text (kind_from number) ≡ true → is_csvj t ≡ false → result.lone ≡ holds_lone (content_by src raw.now) }
 {
-    let from = write_delimiter(t, n, out, at, write);
+    let from = quotes::write_delimiter(cell_lexer::delimiter_of(t), n, out, at, write);
     verbatim::write_verbatim(
         src,
         t,
@@ -184,13 +169,12 @@ pub fn write_record(
 {
     let only = starts.len() == 1;
     let direct = verbatim::is_direct(src, t);
-    let mut n = 0;
     let mut o = at;
     let mut said = FirstFault {
         column: 0,
         lone: false,
     };
-    while n < starts.len() {
+    for n in 0..starts.len() {
         let from = starts[n];
         let upto = ends[n];
         let number = kinds[n];
@@ -209,7 +193,6 @@ pub fn write_record(
         );
         o = x.end;
         said = with_cell(said, t, number, x.lone, n + 1);
-        n += 1;
     }
     RecordText {
         end: o,

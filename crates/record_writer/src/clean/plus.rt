@@ -15,12 +15,10 @@ fn holds_from(bs: &[u8], at: usize, p: u8) -> bool
     requires { at ≤ length bs.now }
     ensures { result ≡ holds (is_byte p) (drop at bs.now) }
 {
-    let mut i = at;
-    while i < bs.len() {
+    for i in at..bs.len() {
         if bs[i] == p {
             return true;
         }
-        i += 1;
     }
     false
 }
@@ -58,19 +56,13 @@ fn write_text(bs: &[u8], p: u8, only: bool, out: &mut [u8], o: usize, write: boo
     requires { Room write o (marked (needs_quotes p only bs.now) bs.now) out.old }
     ensures { WrittenAt write out.old o (marked (needs_quotes p only bs.now) bs.now) out.new result }
 {
-    let quoted = needs_quotes(bs, p, only);
-    let from = quotes::write_quote(quoted, out, o, write);
-    let end = buffer::emit(out, from, bs, write);
-    quotes::write_quote(quoted, out, end, write)
+    crate::quotes::write_marked(needs_quotes(bs, p, only), bs, out, o, write)
 }
 
 fn quotes_before(raw: &[u8]) -> usize
     ensures { result ≡ quotes_by (begins QUOTE raw.now) }
 {
-    if quotes::has_quotes(raw) {
-        return 1;
-    }
-    0
+    if quotes::has_quotes(raw) { 1 } else { 0 }
 }
 
 fn write_column(
@@ -109,13 +101,11 @@ pub fn write_csv_plus(
         out.new result }
 {
     let only = starts.len() == 1;
-    let mut n = 0;
     let mut o = at;
-    while n < starts.len() {
+    for n in 0..starts.len() {
         let from = starts[n];
         let upto = ends[n];
         o = write_column(&s[from..upto], n, p, only, out, o, write);
-        n += 1;
     }
     o
 }

@@ -16,9 +16,9 @@ fn write_cell(raw: &[u8], out: &mut [u8], o: usize) -> usize
     ensures { WrittenAt true out.old o (quoted_cell raw.now) out.new result }
 {
     let bare = !quotes::has_quotes(raw);
-    let from = quotes::write_quote(bare, out, o, true);
+    let from = crate::quotes::write_quote(bare, out, o, true);
     let end = buffer::copy(out, from, raw);
-    quotes::write_quote(bare, out, end, true)
+    crate::quotes::write_quote(bare, out, end, true)
 }
 
 fn write_column(raw: &[u8], n: usize, out: &mut [u8], o: usize) -> usize
@@ -34,13 +34,11 @@ fn write(s: &[u8], starts: &[usize], ends: &[usize], out: &mut [u8], at: usize) 
     requires room { Room true at (joined_from COMMA quoted_cell s.now 0 starts.now ends.now) out.old }
     ensures { WrittenAt true out.old at (joined_from COMMA quoted_cell s.now 0 starts.now ends.now) out.new result }
 {
-    let mut n = 0;
     let mut o = at;
-    while n < starts.len() {
+    for n in 0..starts.len() {
         let from = starts[n];
         let upto = ends[n];
         o = write_column(&s[from..upto], n, out, o);
-        n += 1;
     }
     o
 }
@@ -72,13 +70,11 @@ fn measure(s: &[u8], starts: &[usize], ends: &[usize], at: usize) -> usize
     requires at_bound { at ≤ MAXFILE }
     ensures { result ≡ measure (at + length (joined_from COMMA quoted_cell s.now 0 starts.now ends.now)) }
 {
-    let mut n = 0;
     let mut o = at;
-    while n < starts.len() {
+    for n in 0..starts.len() {
         let from = starts[n];
         let upto = ends[n];
         o = buffer::measured(o, column_length(&s[from..upto], n));
-        n += 1;
     }
     o
 }
