@@ -19,10 +19,11 @@ fn is_clean(d: Dialect, s: &[u8], starts: &[usize], ends: &[usize]) -> bool
     requires { Parts s.now starts.now ends.now }
     ensures { result ≡ true → CleanIn d s.now starts.now ends.now }
 {
-    if cell_lexer::quote_of(d) != 0x22 {
+    if cell_lexer::quote_of(d) != b'"' {
         return false;
     }
     let bare = check::may_be_bare(d);
+    // By place: a span's start and end are in two lists.
     for n in 0..starts.len() {
         let from = starts[n];
         let upto = ends[n];

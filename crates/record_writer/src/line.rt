@@ -48,7 +48,7 @@ pub fn write_text(
                 carries: Ok(()),
             };
         }
-        if cell_lexer::quote_of(t) == 0x22 {
+        if cell_lexer::quote_of(t) == b'"' {
             let p = cell_lexer::delimiter_of(t);
             let end = plus::write_csv_plus(s, starts, ends, p, out, at, write);
             return RecordText {

@@ -17,21 +17,15 @@ pub fn quotes_all(t: Dialect) -> bool
     }
 }
 
-// How many precede it, and as many follow it: one where the cell begins and ends with one.
+// How many precede it, and as many follow it: one where the cell begins and ends with one. A number, since callers slice by it.
 pub fn quotes_around(raw: &[u8]) -> usize
     ensures { Quotes raw.now result }
 {
-    if raw.len() < 2 {
-        return 0;
+    if 2 <= raw.len() && raw[0] == b'"' && raw[raw.len() - 1] == b'"' {
+        1
+    } else {
+        0
     }
-    if raw[0] != 0x22 {
-        return 0;
-    }
-    let last = raw.len() - 1;
-    if raw[last] != 0x22 {
-        return 0;
-    }
-    1
 }
 
 // One of the two quotation marks of a text that has them.
@@ -40,7 +34,7 @@ pub fn write_quote(quoted: bool, out: &mut [u8], o: usize, write: bool) -> usize
     ensures { WrittenAt write out.old o (quote_if quoted) out.new result }
 {
     if quoted {
-        return buffer::emit_byte(out, o, 0x22, write);
+        return buffer::emit_byte(out, o, b'"', write);
     }
     o
 }

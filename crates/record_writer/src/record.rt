@@ -174,6 +174,7 @@ pub fn write_record(
         column: 0,
         lone: false,
     };
+    // By place: only the first cell has no delimiter before it, and a fault names its column.
     for n in 0..starts.len() {
         let from = starts[n];
         let upto = ends[n];
@@ -206,8 +207,7 @@ pub fn write_ending(t: Dialect, out: &mut [u8], o: usize, write: bool) -> usize
     ensures { WrittenAt write out.old o (ending t) out.new result }
 {
     match t {
-        Dialect::Csvj => buffer::emit_byte(out, o, 0x0A, write),
-        Dialect::Tdif => buffer::emit_byte(out, o, 0x0A, write),
-        Dialect::CsvPlus(_) => buffer::emit(out, o, &[0x0D, 0x0A], write),
+        Dialect::Csvj | Dialect::Tdif => buffer::emit_byte(out, o, b'\n', write),
+        Dialect::CsvPlus(_) => buffer::emit(out, o, &[b'\r', b'\n'], write),
     }
 }

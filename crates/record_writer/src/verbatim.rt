@@ -24,7 +24,7 @@ pub fn is_direct(src: Source, t: Dialect) -> bool
     ensures { result ≡ true → Direct src t }
 {
     match src {
-        Source::File(d) => cell_lexer::quote_of(d) == 0x22 && quotes::quotes_all(t),
+        Source::File(d) => cell_lexer::quote_of(d) == b'"' && quotes::quotes_all(t),
         Source::Contents => false,
     }
 }

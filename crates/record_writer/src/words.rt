@@ -9,6 +9,7 @@ pub fn all_words<F: Fn(u64) -> u64>(raw: &[u8], from: usize, upto: usize, unfit:
     ensures { (passes : ℕ → Bool) → ((w flags : ℕ) → w < 2 ^ 64 → F.post unfit w flags → Flags passes w flags)
         → result ≡ true → AllIn passes raw.now from upto }
 {
+    // By place: a step is eight bytes, and the last word may overlap the one before.
     let mut i = from;
     while 8 < upto - i {
         if unfit(swar::word(raw, i)) != 0 {

@@ -19,22 +19,12 @@ pub fn may_be_bare(d: Dialect) -> bool
     }
 }
 
-// Whether a cell with `around` quotation marks before its content may be a text.
-fn may_be_text(bare: bool, around: usize) -> bool
-    ensures { result ≡ true → around ≡ 0 → bare ≡ true }
-{
-    if around == 0 {
-        return bare;
-    }
-    true
-}
-
 // `bare`: the dialect has texts without quotation marks.
 pub fn is_clean(bare: bool, raw: &[u8]) -> bool
     ensures { (d : TheDialect) → quote_of d ≡ QUOTE → bare ≡ may_be_empty d → result ≡ true → CleanCell d raw.now }
 {
     let around = quotes::quotes_around(raw);
-    if !may_be_text(bare, around) {
+    if around == 0 && !bare {
         return false;
     }
     words::all_words(raw, around, raw.len() - around, |w| swar::unclean_text(w))

@@ -27,6 +27,7 @@ fn holds_from(bs: &[u8], at: usize, p: u8) -> bool
 fn holds_byte(bs: &[u8], p: u8) -> bool
     ensures { result ≡ holds (is_byte p) bs.now }
 {
+    // By place: a step is a word of eight bytes, and the rest is shorter than one.
     let mut i = 0;
     while 8 <= bs.len() - i {
         let same = swar::other_than(swar::word(bs, i), p) ^ 0x8080808080808080;
@@ -41,13 +42,7 @@ fn holds_byte(bs: &[u8], p: u8) -> bool
 fn needs_quotes(bs: &[u8], p: u8, only: bool) -> bool
     ensures { result ≡ needs_quotes p only bs.now }
 {
-    if holds_byte(bs, p) {
-        return true;
-    }
-    if only {
-        return bs.len() == 0;
-    }
-    false
+    holds_byte(bs, p) || only && bs.is_empty()
 }
 
 // ---- cells
@@ -102,6 +97,7 @@ pub fn write_csv_plus(
 {
     let only = starts.len() == 1;
     let mut o = at;
+    // By place: only the first cell has no delimiter before it.
     for n in 0..starts.len() {
         let from = starts[n];
         let upto = ends[n];

@@ -11,6 +11,7 @@ use crate::clean::quotes;
 
 // ---- writing
 
+// By `copy` and not by `write_marked`, which would test at each cell whether it writes or measures.
 fn write_cell(raw: &[u8], out: &mut [u8], o: usize) -> usize
     requires { Room true o (quoted_cell raw.now) out.old }
     ensures { WrittenAt true out.old o (quoted_cell raw.now) out.new result }
@@ -25,7 +26,7 @@ fn write_column(raw: &[u8], n: usize, out: &mut [u8], o: usize) -> usize
     requires { Room true o (before COMMA n ++ quoted_cell raw.now) out.old }
     ensures { WrittenAt true out.old o (before COMMA n ++ quoted_cell raw.now) out.new result }
 {
-    let from = quotes::write_delimiter(0x2C, n, out, o, true);
+    let from = quotes::write_delimiter(b',', n, out, o, true);
     write_cell(raw, out, from)
 }
 
@@ -35,6 +36,7 @@ fn write(s: &[u8], starts: &[usize], ends: &[usize], out: &mut [u8], at: usize) 
     ensures { WrittenAt true out.old at (joined_from COMMA quoted_cell s.now 0 starts.now ends.now) out.new result }
 {
     let mut o = at;
+    // By place: only the first cell has no delimiter before it.
     for n in 0..starts.len() {
         let from = starts[n];
         let upto = ends[n];
@@ -71,6 +73,7 @@ fn measure(s: &[u8], starts: &[usize], ends: &[usize], at: usize) -> usize
     ensures { result ≡ measure (at + length (joined_from COMMA quoted_cell s.now 0 starts.now ends.now)) }
 {
     let mut o = at;
+    // By place: only the first cell has no delimiter before it.
     for n in 0..starts.len() {
         let from = starts[n];
         let upto = ends[n];
@@ -93,7 +96,8 @@ pub fn write_quoted(
     ensures { WrittenAt write out.old at (joined_from COMMA quoted_cell s.now 0 starts.now ends.now) out.new result }
 {
     if write {
-        return self::write(s, starts, ends, out, at);
+        self::write(s, starts, ends, out, at)
+    } else {
+        measure(s, starts, ends, at)
     }
-    measure(s, starts, ends, at)
 }

@@ -8,10 +8,7 @@ ghost use Rattle.record_writer.specs.Joined.{before};
 pub fn has_quotes(raw: &[u8]) -> bool
     ensures { result ≡ begins QUOTE raw.now }
 {
-    if raw.len() == 0 {
-        return false;
-    }
-    raw[0] == 0x22
+    matches!(raw, [b'"', ..])
 }
 
 // The delimiter before the cell at place n, unless it is the first.
