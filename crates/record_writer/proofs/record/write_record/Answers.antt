@@ -14,7 +14,7 @@ use Rattle.model.specs.rules.Api.{slice}
 use Rattle.buffer.proofs.WriteProgress.{Emitting, same_long, room_next, put_next, put_whole}
 use Rattle.cell_decoder.specs.Sources.{kind_from, content_by, cells_in, CellSpan}
 use Rattle.cell_writer.specs.Cells.{value_of}
-use Rattle.record_writer.specs.Columns.{column_text, uncarried_cell, check_of}
+use Rattle.record_writer.specs.Columns.{column_text, uncarried_cell}
 use Rattle.record_writer.proofs.Columns.{text_at, written_none, text_at_lem, text_end, says_next, uncarried_end, or_else_sound}
 use Rattle.record_writer.proofs.record.write_record.Goals as goal
 
@@ -57,9 +57,9 @@ loop-n-preserved c =
       says =
           says_next a.src a.t a.s.now a.starts.now a.ends.now a.kinds.now a.header c.requires.cells.with_ends
           c.requires.cells.with_kinds l.n (omega arith)
-          _ (check_of l.said.column l.said.lone) (uncarried_cell a.t (l.n + 1) kind content)
-          (check_of c.with_cell-said.result.column c.with_cell-said.result.lone) kind refl refl
-          (c.with_cell-said.ensures content x.ensures.lone_value) l.invariant.says;
+          _ l.carries (uncarried_cell a.t (l.n + 1) kind content)
+          c.with_cell-carries.result kind refl refl
+          (c.with_cell-carries.ensures content x.ensures.lone_value) l.invariant.says;
       within = omega arith;
     }
 
@@ -69,16 +69,14 @@ shape_of-out c = same_long c.loop-n.invariant.going
 pub returns : goal.returns
 returns c =
     let l = c.loop-n in
-    let said : CheckResult = check_of l.said.column l.said.lone in
     let a = c.args in record {
       written_at = put_whole
           (rw
           (text_end a.src a.t a.s.now a.starts.now a.ends.now a.kinds.now a.header c.requires.cells.with_ends
           c.requires.cells.with_kinds l.n (omega arith)) at l.invariant.going);
-      carries_value = c.check_result.ensures
-          ∙ sym
+      carries_value = sym
           (l.invariant.says
-          ∙ ap (λ (v : CheckResult). said or_else v)
+          ∙ ap (λ (v : CheckResult). l.carries or_else v)
           (uncarried_end a.src a.t a.s.now a.starts.now a.ends.now a.kinds.now a.header
-          c.requires.cells.with_ends c.requires.cells.with_kinds l.n (omega arith)) ∙ or_else_sound said);
+          c.requires.cells.with_ends c.requires.cells.with_kinds l.n (omega arith)) ∙ or_else_sound l.carries);
     }
