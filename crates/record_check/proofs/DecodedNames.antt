@@ -15,7 +15,7 @@ use Rattle.model.specs.rules.Decode.{kind_number, kind_of, content_of}
 use Rattle.model.specs.rules.Api as api
 use Rattle.model.proofs.file_laws.Lengths.{content_length}
 use Rattle.cell_decoder.specs.declared.Decoded.{Decoded}
-use Rattle.cell_decoder.specs.declared.Decoded.TheVariants.{Content, Refused}
+use Rattle.std.specs.Prelude.{Result, Ok, Err}
 use Rattle.cell_decoder.specs.Answer.{CellAnswer, given_answer, decoder_answer, sound_cell}
 
 some_kind : (k : Kind) → 0 ≡ kind_number k → ⊥
@@ -32,15 +32,15 @@ module _ (d : Dialect) (raw old : Bytes) (h : length raw ≤ length old) where
       let k : length (content_of d raw) ≤ length old = omega (arith, content_length d raw) in
       rw (le-ltb (length old) (length (content_of d raw)) k)
 
-  pub never_refused : {A : Type 0} (r : Decoded) (e : Report) → r ≡ Refused e → given_answer r ≡ decoder_answer (sound_cell d raw (length old)) → A
+  pub never_refused : {A : Type 0} (r : Result Decoded Report) (e : Report) → r ≡ Err e → given_answer r ≡ decoder_answer (sound_cell d raw (length old)) → A
   never_refused r e told ensured =
       let z : 0 ≡ kind_number (kind_of d raw) = ap (λ (s : CellAnswer). s.kind) (sym (ap given_answer told) ∙ ensured ∙ ap decoder_answer fits) in
       absurd (some_kind (kind_of d raw) z)
 
-  pub decoded : (r : Decoded) (n : ℕ) (k : Kind) (new : Bytes) → r ≡ Content n k
+  pub decoded : (r : Result Decoded Report) (x : Decoded) (new : Bytes) → r ≡ Ok x
       → (given_answer r ≡ decoder_answer (sound_cell d raw (length old))) × (new ≡ over (sound_cell d raw (length old)).content old)
-      → (n ≡ length (content_of d raw)) × (new ≡ over (content_of d raw) old)
-  decoded r n k new told ensured = (
+      → (x.size ≡ length (content_of d raw)) × (new ≡ over (content_of d raw) old)
+  decoded r x new told ensured = (
     ap (λ (s : CellAnswer). s.size) (sym (ap given_answer told) ∙ ensured.0 ∙ ap decoder_answer fits),
     ensured.1 ∙ ap (λ (a : api.Decoded). over a.content old) fits,
   )

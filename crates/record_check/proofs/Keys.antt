@@ -2,18 +2,17 @@
 use mathlib.Core.Path.{◌≡◌, refl, sym, ap, ◌∙◌}
 use mathlib.Core.Bool.{Bool, true, false, ◌&&◌, and-false}
 use mathlib.Core.List.{List, [], ◌∷◌, map}
-use Prim.Native.Nat.{ℕ, zero, suc, ◌+◌, ◌-◌, ◌<◌, ◌≤◌}
+use Prim.Native.Nat.{ℕ, zero, suc, ◌-◌, ◌<◌, ◌≤◌}
 use native.Mathlib.Omega.{arith}
-use lib.ListN.{length, drop, get_or, length-map, drop_of_length-le}
+use lib.ListN.{length, get_or, length-map}
 use lib.Dec.{eqb}
-use borrow.Author.Tests.{eq-eqb, ne_eqb}
+use Rattle.core.specs.List.{list_all, zip}
 use Rattle.model.specs.declared.Dialect.{Dialect}
 use Rattle.model.specs.declared.Dialect.TheVariants.{Csvj, Tdif, CsvPlus}
 use Rattle.model.specs.rules.Base.{choose◌then◌else◌, Bytes, same}
 use Rattle.model.specs.rules.Records.{lower, name_key, among}
 use Rattle.model.specs.rules.Report.{MAXRECORD}
 use Rattle.model.specs.declared.Kind.{Kind}
-use Rattle.buffer.proofs.WriteProgress.{drop_next}
 use Rattle.cell_decoder.specs.declared.source.Source.{Source}
 use Rattle.cell_decoder.specs.declared.source.Source.TheVariants.{File}
 use Rattle.cell_decoder.specs.Sources.{Encoded, in_file, as_content, Cells}
@@ -34,14 +33,6 @@ key_folds (CsvPlus s) (b ∷ bs) = ap (λ (l : Bytes). b ∷ l) (key_folds (CsvP
 pub key_length : (d : Dialect) (bs : Bytes) → length (name_key d bs) ≡ length bs
 key_length d bs = ap length (key_folds d bs) ∙ length-map bs (folded d)
 
--- the key of a name from place i on
-module _ (d : Dialect) (name : Bytes) (i : ℕ) where
-  pub key_next : i < length name → name_key d (drop i name) ≡ folded d (get_or name i 0) ∷ name_key d (drop (i + 1) name)
-  key_next h = rw (key_folds d (drop i name), key_folds d (drop (i + 1) name), drop_next name i (i + 1) h refl)
-
-  pub key_end : length name ≤ i → name_key d (drop i name) ≡ []
-  key_end h = rw (drop_of_length-le name h, key_folds d [])
-
 -- ---- two keys
 
 -- lists of different lengths are different
@@ -57,24 +48,17 @@ module _ (rule : Dialect) (a b : Bytes) where
   pub different_lengths : (length a ≡ length b → ⊥) → same (name_key rule a) (name_key rule b) ≡ false
   different_lengths h = same_lengths (name_key rule a) (name_key rule b) (λ e. h (sym (key_length rule a) ∙ e ∙ key_length rule b))
 
-  -- whether they are the same from place i on
-  abbrev pub same_from : ℕ → Bool
-  same_from i = same (name_key rule (drop i a)) (name_key rule (drop i b))
-
-  pub same_end : (i : ℕ) → length a ≤ i → length b ≤ i → same_from i ≡ true
+  -- and those of one length the same where each two bytes are
+  pub same_pairs : length a ≡ length b → list_all (λ (p : ℕ × ℕ). eqb (folded rule p.0) (folded rule p.1)) (zip a b) ≡ same (name_key rule a) (name_key rule b)
   unfolding same
-  same_end i h k = rw (key_end rule a i h, key_end rule b i k)
-
-  module _ (i : ℕ) (h : i < length a) (k : i < length b) where
-    same_at : same_from i ≡ (eqb (folded rule (get_or a i 0)) (folded rule (get_or b i 0)) && same_from (i + 1))
-    unfolding same
-    same_at = rw (key_next rule a i h, key_next rule b i k)
-
-    pub same_differs : (folded rule (get_or a i 0) ≡ folded rule (get_or b i 0) → ⊥) → same_from i ≡ false
-    same_differs e = same_at ∙ rw (ne_eqb (folded rule (get_or a i 0)) (folded rule (get_or b i 0)) e)
-
-    pub same_next : folded rule (get_or a i 0) ≡ folded rule (get_or b i 0) → same_from i ≡ same_from (i + 1)
-    same_next e = same_at ∙ rw (eq-eqb (folded rule (get_or a i 0)) (folded rule (get_or b i 0)) e)
+  same_pairs h = rw (key_folds rule a, key_folds rule b) (each a b h)
+    where
+      each : (a b : Bytes) → length a ≡ length b
+          → list_all (λ (p : ℕ × ℕ). eqb (folded rule p.0) (folded rule p.1)) (zip a b) ≡ same (map (folded rule) a) (map (folded rule) b)
+      each [] [] h = refl
+      each [] (y ∷ b) h = absurd (omega arith)
+      each (x ∷ a) [] h = absurd (omega arith)
+      each (x ∷ a) (y ∷ b) h = ap (λ (r : Bool). eqb (folded rule x) (folded rule y) && r) (each a b (omega arith))
 
 -- ---- spans
 

@@ -17,7 +17,8 @@ use Rattle.model.specs.rules.Text.{Value, is_text}
 use Rattle.model.specs.rules.Records.{◌or_else◌, when, repeat_fault, header_kind_from, header_fault, data_fault}
 use Rattle.buffer.proofs.WriteProgress.{drop_next}
 use Rattle.cell_decoder.specs.declared.source.Source.{Source}
-use Rattle.cell_decoder.specs.Sources.{kind_from, cells_in}
+use Rattle.cell_decoder.specs.Sources.{kind_from, cells_in, Cells}
+use Rattle.cell_decoder.proofs.CellsIn.{cells_length}
 use Rattle.record_check.specs.Kinds.{not_text_from}
 
 -- ---- data records
@@ -56,7 +57,7 @@ module _ (kinds : List ℕ) where
       not_text_next e = rw (drop_next kinds n (n + 1) h refl, e) (ap (λ (k : ℕ). not_text_from k (drop (n + 1) kinds)) (sym (add-one (n + 1))))
 
 -- the check of the kinds' numbers is that of the cells
-pub not_text_cells : (n : ℕ) (src : Source) (s : Bytes) (starts ends kinds : List ℕ) → length starts ≡ length ends → length starts ≡ length kinds
+not_text_cells : (n : ℕ) (src : Source) (s : Bytes) (starts ends kinds : List ℕ) → length starts ≡ length ends → length starts ≡ length kinds
     → not_text_from n kinds ≡ header_kind_from n (cells_in src s starts ends kinds)
 unfolding not_text_from header_kind_from cells_in
 not_text_cells n src s [] ends [] e k = refl
@@ -69,16 +70,21 @@ not_text_cells n src s (i ∷ starts) (j ∷ ends) (x ∷ kinds) e k =
 
 -- ---- headers
 
-module _ (d : Dialect) (vs : List Value) where
-  pub header_too_many : 64 < length vs → Err TooManyColumns ≡ header_fault d vs
+pub counted : {src : Source} {s : Bytes} {starts ends kinds : List ℕ} → Cells src s starts ends kinds
+    → length (cells_in src s starts ends kinds) ≡ length starts
+counted {src} {s} {starts} {ends} {kinds} c = cells_length src s starts ends kinds c.with_ends c.with_kinds
+
+module _ (d : Dialect) {src : Source} {s : Bytes} {starts ends kinds : List ℕ} (c : Cells src s starts ends kinds) where
+  pub header_too_many : 64 < length starts → Err TooManyColumns ≡ header_fault d (cells_in src s starts ends kinds)
   unfolding header_fault when ◌or_else◌
-  header_too_many h = rw (lt-ltb 64 (length vs) h)
+  header_too_many h = rw (counted c, lt-ltb 64 (length starts) h)
 
-  module _ (few : length vs ≤ 64) where
-    pub header_not_text : (e : Fault) → header_kind_from 1 vs ≡ Err e → Err e ≡ header_fault d vs
+  module _ (few : length starts ≤ 64) where
+    pub header_not_text : (e : Fault) → not_text_from 1 kinds ≡ Err e → Err e ≡ header_fault d (cells_in src s starts ends kinds)
     unfolding header_fault when ◌or_else◌
-    header_not_text e h = rw (le-ltb 64 (length vs) few, h)
+    header_not_text e h = rw (counted c, le-ltb 64 (length starts) few, ← not_text_cells 1 src s starts ends kinds c.with_ends c.with_kinds, h)
 
-    pub header_names : header_kind_from 1 vs ≡ Ok tt → repeat_fault d RepeatedName vs ≡ header_fault d vs
+    pub header_names : not_text_from 1 kinds ≡ Ok tt
+        → repeat_fault d RepeatedName (cells_in src s starts ends kinds) ≡ header_fault d (cells_in src s starts ends kinds)
     unfolding header_fault when ◌or_else◌
-    header_names h = rw (le-ltb 64 (length vs) few, h)
+    header_names h = rw (counted c, le-ltb 64 (length starts) few, ← not_text_cells 1 src s starts ends kinds c.with_ends c.with_kinds, h)

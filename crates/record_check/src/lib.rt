@@ -26,13 +26,11 @@ pub mod names;
 fn first_not_text(kinds: &[u8]) -> Result<(), Fault>
     ensures { result ≡ not_text_from 1 kinds.now }
 {
-    let mut n = 0;
-    while n < kinds.len() {
-        if !source::is_text(source::kind_of_number(kinds[n])) {
+    for (n, number) in kinds.iter().enumerate() {
+        if !source::is_text(source::kind_of_number(*number)) {
             let column = n + 1;
             return Err(Fault::HeaderKind { column });
         }
-        n += 1;
     }
     Ok(())
 }
@@ -93,7 +91,8 @@ pub fn check(
         (cells_in src s.now starts.now ends.now kinds.now) }
 {
     if header {
-        return self::header(src, d, s, starts, ends, kinds);
+        self::header(src, d, s, starts, ends, kinds)
+    } else {
+        data(columns, starts.len())
     }
-    data(columns, starts.len())
 }

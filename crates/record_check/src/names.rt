@@ -10,7 +10,7 @@ ghost use Rattle.std.specs.Prelude.{◌≡◌, List, ℕ, ◌<◌, ◌≤◌, le
 ghost use Rattle.model.specs.declared.Fault.{Fault};
 ghost use Rattle.model.specs.rules.Base.{same};
 ghost use Rattle.model.specs.rules.Decode.{content_of};
-ghost use Rattle.model.specs.rules.Records.{lower, name_key, among, repeat_fault};
+ghost use Rattle.model.specs.rules.Records.{name_key, among, repeat_fault};
 ghost use Rattle.model.specs.rules.Report.{MAXRECORD};
 ghost use Rattle.cell_decoder.specs.declared.source.Source.TheVariants.{File};
 ghost use Rattle.cell_decoder.specs.Sources.{content_by, cells_in};
@@ -24,27 +24,13 @@ mod content;
 
 // ---- two names
 
-// A to Z taken as a to z (§4.10).
-fn lower_case(b: u8) -> u8
-    ensures { result ≡ lower b }
-{
-    if b < 0x41 {
-        return b;
-    }
-    if 0x5A < b {
-        return b;
-    }
-    b + 0x20
-}
-
-// A byte of a name with case folded by a dialect's rule.
+// A byte of a name with case folded by a dialect's rule: TDIF takes A to Z as a to z (§4.10).
 fn fold_byte(rule: Dialect, b: u8) -> u8
     ensures { result ≡ folded rule b }
 {
     match rule {
-        Dialect::Csvj => b,
-        Dialect::Tdif => lower_case(b),
-        Dialect::CsvPlus(_) => b,
+        Dialect::Tdif => b.to_ascii_lowercase(),
+        Dialect::Csvj | Dialect::CsvPlus(_) => b,
     }
 }
 
@@ -52,17 +38,10 @@ fn fold_byte(rule: Dialect, b: u8) -> u8
 fn same_name(rule: Dialect, a: &[u8], b: &[u8]) -> bool
     ensures { result ≡ same (name_key rule a.now) (name_key rule b.now) }
 {
-    if a.len() != b.len() {
-        return false;
-    }
-    let mut i = 0;
-    while i < a.len() {
-        if fold_byte(rule, a[i]) != fold_byte(rule, b[i]) {
-            return false;
-        }
-        i += 1;
-    }
-    true
+    a.len() == b.len()
+        && a.iter()
+            .zip(b)
+            .all(|(x, y)| fold_byte(rule, *x) == fold_byte(rule, *y))
 }
 
 // Whether the name in a cell of a file is this one. The room is for its content.
@@ -102,9 +81,7 @@ fn is_among(
     ensures { result ≡ among (name_key rule name.now) (keys_before src rule s.now starts.now ends.now n) }
 {
     let mut room = [0u8; MAX_RECORD];
-    let mut j = n;
-    while 0 < j {
-        j -= 1;
+    for j in (0..n).rev() {
         let from = starts[j];
         let upto = ends[j];
         if is_name(src, rule, name, &s[from..upto], &mut room) {
@@ -164,12 +141,10 @@ pub fn first_repeat(
     ensures { (fault : ℕ → Fault) (kinds : List ℕ) → length kinds ≡ length starts.now
         → repeated_as fault result ≡ repeat_fault rule fault (cells_in src s.now starts.now ends.now kinds) }
 {
-    let mut n = 0;
-    while n < starts.len() {
+    for n in 0..starts.len() {
         if repeats(src, rule, s, starts, ends, n) {
             return Some(n + 1);
         }
-        n += 1;
     }
     None
 }

@@ -1,5 +1,5 @@
 -- Fault 9 by the outcomes of its tests, in the definition's order.
-use mathlib.Core.Path.{◌≡◌, refl, sym, ◌∙◌}
+use mathlib.Core.Path.{◌≡◌, refl, ◌∙◌}
 use mathlib.Core.Bool.{Bool, true, false, not, ◌&&◌}
 use mathlib.Core.List.{List, [], ◌∷◌, ◌++◌}
 use Prim.Native.Nat.{ℕ, ◌+◌, ◌<◌, ◌≤◌}
@@ -12,17 +12,17 @@ use Rattle.model.specs.declared.Dialect.TheVariants.{Csvj, Tdif, CsvPlus}
 use Rattle.model.specs.declared.Fault.{Fault}
 use Rattle.model.specs.declared.Fault.TheVariants.{NoCells, TextTooLong, OutputTooLong}
 use Rattle.model.specs.rules.Types.{CheckResult}
-use Rattle.std.specs.Prelude.{Ok, Err}
+use Rattle.std.specs.Prelude.{Result, Ok, Err}
+use Rattle.core.specs.Result.{result_and}
 use Rattle.model.specs.rules.Base.{Bytes, choose◌then◌else◌, is_empty}
 use Rattle.model.specs.rules.Dialect.{is_csvj, into}
 use Rattle.model.specs.rules.Text.{Value, record_text, ending}
 use Rattle.model.specs.rules.Records.{◌or_else◌, when, uncarried_from, clash_fault, target_fault}
 use Rattle.model.specs.rules.Report.{MAXFILE, MAXRECORD}
 use Rattle.model.proofs.Tests.{split_on, impossible}
-use Rattle.model.proofs.file_laws.CheckResults.{fault_sound}
 use Rattle.buffer.specs.Writes.{measure, Room, WrittenAt}
 use Rattle.buffer.proofs.WriteProgress.{measure_within, measure_beyond}
-use Rattle.record_target.specs.Sized.{length_fault, Sized}
+use Rattle.record_target.specs.Sized.{length_fault}
 
 -- ---- lengths
 
@@ -37,29 +37,37 @@ pub measure_over : (n end : ℕ) → end ≡ measure n → MAXRECORD < end → M
 measure_over n end e h =
     split_on (leb MAXFILE n) (λ b. omega (arith, leb-true MAXFILE n b)) (λ b. omega (arith, e, measure_within n (omega (arith, leb-false MAXFILE n b))))
 
-module _ (t : Dialect) (written : ℕ) (text : Bytes) (v : CheckResult) (size : ℕ) where
-  pub text_too_long : v ≡ Err TextTooLong → MAXRECORD < length text → Sized t written text v size
+-- the checks of a length, and the length of the text with its ending
+abbrev Sized : Dialect → ℕ → Bytes → Result ℕ Fault
+Sized t written text = result_and (length_fault t written text) (Ok (length (text ++ ending t)))
+
+module _ (t : Dialect) (written : ℕ) (text : Bytes) where
+  pub text_too_long : MAXRECORD < length text → Err TextTooLong ≡ Sized t written text
   unfolding when ◌or_else◌
-  text_too_long e h = record { says = rw (lt-ltb MAXRECORD (length text) h) e; long = λ s. fault_sound (sym e ∙ s) }
+  text_too_long h = rw (lt-ltb MAXRECORD (length text) h)
 
   module _ (short : length text ≤ MAXRECORD) where
-    pub output_too_long : v ≡ Err OutputTooLong → MAXFILE < written + (length text + length (ending t)) → Sized t written text v size
+    pub output_too_long : MAXFILE < written + (length text + length (ending t)) → Err OutputTooLong ≡ Sized t written text
     unfolding when ◌or_else◌
-    output_too_long e h =
+    output_too_long h =
         let all : length (text ++ ending t) ≡ length text + length (ending t) = length-append text (ending t) in
-        record {
-          says = rw (le-ltb MAXRECORD (length text) short, lt-ltb MAXFILE (written + length (text ++ ending t)) (omega arith)) e;
-          long = λ s. fault_sound (sym e ∙ s);
-        }
+        rw (le-ltb MAXRECORD (length text) short, lt-ltb MAXFILE (written + length (text ++ ending t)) (omega arith))
 
-    pub fits : v ≡ Ok tt → size ≡ length text + length (ending t) → written + size ≤ MAXFILE → Sized t written text v size
+    pub fits : (size : ℕ) → size ≡ length text + length (ending t) → written + size ≤ MAXFILE → Ok size ≡ Sized t written text
     unfolding when ◌or_else◌
-    fits e n h =
+    fits size n h =
         let all : length (text ++ ending t) ≡ length text + length (ending t) = length-append text (ending t) in
-        record {
-          says = rw (le-ltb MAXRECORD (length text) short, le-ltb MAXFILE (written + length (text ++ ending t)) (omega arith)) e;
-          long = λ s. n ∙ sym all;
-        }
+        rw (le-ltb MAXRECORD (length text) short, le-ltb MAXFILE (written + length (text ++ ending t)) (omega arith), all, n)
+
+-- ---- two checks in order
+
+pub or_fault : {e : Fault} {v : CheckResult} (w : CheckResult) → v ≡ Err e → (v or_else w) ≡ Err e
+unfolding ◌or_else◌
+or_fault w h = rw h
+
+pub or_sound : {v : CheckResult} (w : CheckResult) → v ≡ Ok tt → (v or_else w) ≡ w
+unfolding ◌or_else◌
+or_sound w h = rw h
 
 -- ---- reason by reason
 
@@ -95,6 +103,11 @@ has_cells_lem false csvj (v ∷ vs) h = refl
 pub empty_header : (header csvj : Bool) (vs : List Value) → header ≡ true → length vs ≡ 0 → not csvj ≡ (header && is_empty vs && not csvj)
 empty_header header csvj [] e n = rw e
 empty_header header csvj (v ∷ vs) e n = absurd (omega (arith, n))
+
+pub not_csvj : (t : Dialect) → (t ≡ Csvj → ⊥) → is_csvj t ≡ false
+not_csvj Csvj h = absurd (h refl)
+not_csvj Tdif h = refl
+not_csvj (CsvPlus s) h = refl
 
 -- ---- what is only measured
 

@@ -33,17 +33,7 @@ use record_writer::{line, record};
 fn lacks_cells(t: Dialect, header: bool, cells: usize) -> bool
     ensures { (vs : List Value) → length vs ≡ cells → result ≡ (header && is_empty vs && not (is_csvj t)) }
 {
-    if !header {
-        return false;
-    }
-    if cells != 0 {
-        return false;
-    }
-    match t {
-        Dialect::Csvj => false,
-        Dialect::Tdif => true,
-        Dialect::CsvPlus(_) => true,
-    }
+    header && cells == 0 && !matches!(t, Dialect::Csvj)
 }
 
 // How long the record's text is, and the first cell that the target can't represent. Below it lies a room for a cell, which the search

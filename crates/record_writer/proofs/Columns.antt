@@ -10,6 +10,7 @@ use lib.Dec.{eqb}
 use borrow.Author.Tests.{ne_eqb}
 use Rattle.model.specs.declared.Dialect.{Dialect}
 use Rattle.model.specs.declared.Dialect.TheVariants.{Csvj, Tdif, CsvPlus}
+use Rattle.model.specs.declared.Fault.{Fault}
 use Rattle.model.specs.declared.Fault.TheVariants.{LacksKind, LoneSurrogate}
 use Rattle.model.specs.declared.Kind.{Kind}
 use Rattle.model.specs.rules.Types.{CheckResult}
@@ -26,24 +27,19 @@ use Rattle.buffer.proofs.WriteProgress.{Emitting, emitting, put_next, put_whole}
 use Rattle.cell_decoder.specs.declared.source.Source.{Source}
 use Rattle.cell_decoder.specs.Sources.{cells_in}
 use Rattle.cell_decoder.proofs.CellsIn.{cells_length, cell_at, cells_from, cells_next, cells_end}
-use Rattle.record_writer.specs.Columns.{before_cell, is_first, column_text, uncarried_cell, check_of}
+use Rattle.record_writer.specs.Joined.{before}
+use Rattle.record_writer.specs.Columns.{before_cell, is_first, column_text, uncarried_cell}
 
 -- ---- one cell
 
--- a delimiter is before a cell that is not the first
-pub before_later : (t : Dialect) (n : ℕ) → (n ≡ 0 → ⊥) → before_cell t n ≡ delimiter_of t ∷ []
-before_later t zero h = absurd (h refl)
-before_later t (suc n) h = refl
+-- the delimiter before a cell, by its byte
+pub before_by : (t : Dialect) (n : ℕ) → before (delimiter_of t) n ≡ before_cell t n
+before_by t zero = refl
+before_by t (suc n) = refl
 
 pub later_first : (n : ℕ) (header : Bool) → (n ≡ 0 → ⊥) → is_first n header ≡ false
 later_first zero header h = absurd (h refl)
 later_first (suc n) header h = refl
-
--- nothing is before the first
-pub first_written :
-    (write : Bool) (t : Dialect) (n : ℕ) {o : ℕ} {out : Bytes} → n ≡ 0 → Room write o (before_cell t n) out →
-    WrittenAt write out o (before_cell t n) out o
-first_written write t n e p = rw e (put_whole (emitting write (rw e at p)))
 
 -- a cell's text does not depend on its place
 pub cell_anywhere : (t : Dialect) (only first : Bool) (v w : Value) → v.kind ≡ w.kind → v.content ≡ w.content
@@ -90,32 +86,14 @@ unfolding ◌or_else◌
 or_else_sound (Ok _) = refl
 or_else_sound (Err e) = refl
 
--- ---- the check result so far
-
-pub said_nothing : (column : ℕ) (lone : Bool) → column ≡ 0 → check_of column lone ≡ Ok tt
-said_nothing zero lone e = refl
-said_nothing (suc n) lone e = absurd (omega arith)
-
--- then the cell is the first fault
-pub said_then : (column : ℕ) (lone : Bool) (v : CheckResult) → column ≡ 0 → check_of column lone or_else v ≡ v
+-- the check result so far is a fault, or the next decides
+pub or_fault : {e : Fault} {v : CheckResult} (w : CheckResult) → v ≡ Err e → (v or_else w) ≡ Err e
 unfolding ◌or_else◌
-said_then zero lone v e = refl
-said_then (suc n) lone v e = absurd (omega arith)
+or_fault w h = rw h
 
--- and otherwise it is not
-pub said_before : (column : ℕ) (lone : Bool) (v : CheckResult) → (column ≡ 0 → ⊥) → check_of column lone or_else v ≡ check_of column lone
+pub or_sound : {v : CheckResult} (w : CheckResult) → v ≡ Ok tt → (v or_else w) ≡ w
 unfolding ◌or_else◌
-said_before zero lone v e = absurd (e refl)
-said_before (suc n) true v e = refl
-said_before (suc n) false v e = refl
-
-pub says_lone : (column : ℕ) → (column ≡ 0 → ⊥) → check_of column true ≡ Err (LoneSurrogate column)
-says_lone zero e = absurd (e refl)
-says_lone (suc n) e = refl
-
-pub says_lacks : (column : ℕ) → (column ≡ 0 → ⊥) → check_of column false ≡ Err (LacksKind column)
-says_lacks zero e = absurd (e refl)
-says_lacks (suc n) e = refl
+or_sound w h = rw h
 
 -- ---- the cells from place n on
 

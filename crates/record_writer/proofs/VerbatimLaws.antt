@@ -30,7 +30,7 @@ use Rattle.cell_decoder.specs.declared.first_byte.Spelling.{Spelling}
 use Rattle.cell_decoder.specs.declared.first_byte.Spelling.TheVariants.{AsItStands, Doubled, Escaped}
 use Rattle.cell_decoder.proofs.FirstByte.{content_first}
 use Rattle.cell_writer.specs.declared.cell.WrittenForm.TheVariants.{AsText}
-use Rattle.record_writer.specs.declared.verbatim.Verbatim.TheVariants.{Span}
+use Rattle.std.specs.Prelude.{Some}
 use Rattle.cell_writer.specs.PlainRuns.{is_plain, plain_run}
 use Rattle.cell_writer.specs.Units.{body_text}
 use Rattle.cell_writer.specs.Contents.{content_from, source_quote}
@@ -181,7 +181,7 @@ inner_passed {t = t} {kind = kind} {raw = raw} {i = i} {j = j} Rattle.cell_decod
 
 pub passed :
     {src : Source} {t : Dialect} {direct : Bool} {kind : Kind} {raw : Bytes} {i j : ℕ} → Encoded src kind raw →
-    (direct ≡ true → Direct src t) → Looks direct kind raw (Span i j)
+    (direct ≡ true → Direct src t) → Looks direct kind raw (Some (i, j))
     → Passed src t kind raw i j
 passed s f (looks_plain b x p) = inner_passed s (f b) x p
 
@@ -189,7 +189,7 @@ inner_inside : {raw : Bytes} {i j : ℕ} → Inner raw i j → (i ≤ j) × (j �
 inner_inside (unquoted e) = (omega arith, omega arith)
 inner_inside (quoted o r k l) = (omega arith, omega arith)
 
-pub looks_inside : {direct : Bool} {kind : Kind} {raw : Bytes} {i j : ℕ} → Looks direct kind raw (Span i j) → (i ≤ j) × (j ≤ length raw)
+pub looks_inside : {direct : Bool} {kind : Kind} {raw : Bytes} {i j : ℕ} → Looks direct kind raw (Some (i, j)) → (i ≤ j) × (j ≤ length raw)
 looks_inside (looks_plain b x p) = inner_inside p
 
 -- ---- how it is seen

@@ -1,10 +1,9 @@
 -- A record one column at a time: the text of each cell with the delimiter before it, and whether the target can represent it.
-use Rattle.std.specs.Prelude.{ℕ, zero, suc, Bool, true, false, not, ◌&&◌, [], ◌∷◌, ◌++◌}
+use Rattle.std.specs.Prelude.{ℕ, zero, suc, Bool, false, not, ◌&&◌, [], ◌∷◌, ◌++◌}
 use Rattle.model.specs.declared.Dialect.{Dialect}
 use Rattle.model.specs.declared.Fault.TheVariants.{LacksKind, LoneSurrogate}
 use Rattle.model.specs.declared.Kind.{Kind}
 use Rattle.model.specs.rules.Types.{CheckResult}
-use Rattle.std.specs.Prelude.{Ok, Err}
 use Rattle.model.specs.rules.Base.{Bytes}
 use Rattle.model.specs.rules.Dialect.{is_csvj, delimiter_of}
 use Rattle.model.specs.rules.Text.{Value, is_text, cell_text}
@@ -30,9 +29,3 @@ abbrev pub uncarried_cell : (target : Dialect) → (n : ℕ) → Kind → Bytes 
 uncarried_cell t n k content =
     when (not (has_kind t k)) (LacksKind n)
     or_else when (not (is_csvj t) && is_text k && holds_lone content) (LoneSurrogate n)
-
--- the check result for the cells so far, from the column of the first that the target can't represent, or 0, and the reason
-abbrev pub check_of : (column : ℕ) → (lone : Bool) → CheckResult
-check_of zero lone = Ok tt
-check_of (suc n) true = Err (LoneSurrogate (suc n))
-check_of (suc n) false = Err (LacksKind (suc n))

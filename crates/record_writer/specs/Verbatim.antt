@@ -1,5 +1,5 @@
 -- Cells whose content is copied from a source into a target byte for byte.
-use Rattle.std.specs.Prelude.{ℕ, ◌+◌, ◌-◌, ◌≤◌, ◌≡◌, Bool, true, false, length, drop, get_or}
+use Rattle.std.specs.Prelude.{ℕ, ◌+◌, ◌-◌, ◌≤◌, ◌≡◌, Bool, true, false, Option, Some, None, length, drop, get_or}
 use Rattle.model.specs.declared.Dialect.{Dialect}
 use Rattle.model.specs.declared.Dialect.TheVariants.{Csvj, Tdif, CsvPlus}
 use Rattle.model.specs.declared.Kind.{Kind}
@@ -9,8 +9,6 @@ use Rattle.model.specs.rules.Text.{is_text}
 use Rattle.cell_decoder.specs.declared.source.Source.{Source}
 use Rattle.cell_decoder.specs.declared.source.Source.TheVariants.{File}
 use Rattle.cell_writer.specs.PlainRuns.{plain_run}
-use Rattle.record_writer.specs.declared.verbatim.Verbatim.{Verbatim}
-use Rattle.record_writer.specs.declared.verbatim.Verbatim.TheVariants.{Span, Fallback}
 
 -- every text is quoted (§14.3 §14.6)
 abbrev pub quotes_all : (target : Dialect) → Bool
@@ -32,7 +30,7 @@ pub data Inner (raw : Bytes) : (i j : ℕ) → Type 0 where
   unquoted : plain_run QUOTE QUOTE QUOTE raw ≡ length raw → Inner raw 0 (length raw)
   quoted : {j : ℕ} → get_or raw 0 0 ≡ QUOTE → j ≡ 1 + plain_run QUOTE QUOTE QUOTE (drop 1 raw) → get_or raw j 0 ≡ QUOTE → j + 1 ≡ length raw → Inner raw 1 j
 
--- the part of a cell that is copied
-pub data Looks (direct : Bool) (kind : Kind) (raw : Bytes) : Verbatim → Type 0 where
-  looks_plain : {i j : ℕ} → direct ≡ true → is_text kind ≡ true → Inner raw i j → Looks direct kind raw (Span i j)
-  looks_encoded : Looks direct kind raw Fallback
+-- the part of a cell that is copied, from the first place up to the second, if it is
+pub data Looks (direct : Bool) (kind : Kind) (raw : Bytes) : Option (ℕ × ℕ) → Type 0 where
+  looks_plain : {i j : ℕ} → direct ≡ true → is_text kind ≡ true → Inner raw i j → Looks direct kind raw (Some (i, j))
+  looks_encoded : Looks direct kind raw None

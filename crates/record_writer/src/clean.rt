@@ -12,25 +12,24 @@ use model::Dialect;
 mod check;
 pub mod plus;
 pub mod quoted;
-mod quotes;
+pub(crate) mod quotes;
 
 // Whether each cell of a record is verbatim. The first that is not ends the loop.
 fn is_clean(d: Dialect, s: &[u8], starts: &[usize], ends: &[usize]) -> bool
     requires { Parts s.now starts.now ends.now }
     ensures { result ≡ true → CleanIn d s.now starts.now ends.now }
 {
-    if cell_lexer::quote_of(d) != 0x22 {
+    if cell_lexer::quote_of(d) != b'"' {
         return false;
     }
     let bare = check::may_be_bare(d);
-    let mut n = 0;
-    while n < starts.len() {
+    // By place: a span's start and end are in two lists.
+    for n in 0..starts.len() {
         let from = starts[n];
         let upto = ends[n];
         if !check::is_clean(bare, &s[from..upto]) {
             return false;
         }
-        n += 1;
     }
     true
 }

@@ -12,3 +12,4 @@ pub mod line;
 pub mod quotes;
 pub mod record;
 mod verbatim;
+mod words;

@@ -10,25 +10,13 @@ ghost use Rattle.buffer.specs.Writes.{Room, WrittenAt};
 ghost use Rattle.cell_decoder.specs.declared.source.Source.TheVariants.{File};
 ghost use Rattle.cell_decoder.specs.Sources.{cells_in, Cells};
 ghost use Rattle.cell_fast.specs.Ends.{CleanIn};
-ghost use Rattle.record_writer.specs.Verbatim.{quotes_all};
 ghost use Rattle.record_writer.specs.CleanRecord.{CleanRecord};
 
 use crate::clean::{plus, quoted};
-use crate::record;
 use crate::record::RecordText;
+use crate::{quotes, record};
 use cell_decoder::source::Source;
 use model::Dialect;
-
-// Whether a target quotes every text.
-fn quotes_all(t: Dialect) -> bool
-    ensures { result ≡ quotes_all t }
-{
-    match t {
-        Dialect::Csvj => true,
-        Dialect::Tdif => true,
-        Dialect::CsvPlus(_) => false,
-    }
-}
 
 // The text at a place of the buffer, or only its length from there, without the record's ending.
 pub fn write_text(
@@ -53,14 +41,14 @@ pub fn write_text(
     ensures carries_value { result.carries ≡ uncarried_from t 1 (cells_in src s.now starts.now ends.now kinds.now) }
 {
     if clean {
-        if quotes_all(t) {
+        if quotes::quotes_all(t) {
             let end = quoted::write_quoted(s, starts, ends, out, at, write);
             return RecordText {
                 end,
                 carries: Ok(()),
             };
         }
-        if cell_lexer::quote_of(t) == 0x22 {
+        if cell_lexer::quote_of(t) == b'"' {
             let p = cell_lexer::delimiter_of(t);
             let end = plus::write_csv_plus(s, starts, ends, p, out, at, write);
             return RecordText {

@@ -1,7 +1,7 @@
 // The text of a record cell by cell, and the first cell that the target can't represent. In: the spans of the cells in s, with their kinds.
 // Out: the text in the buffer, or only its length. The definitions are `record_text` of model's specs/rules/Text.antt and `uncarried_from` of
 // its specs/rules/Records.antt.
-ghost use Rattle.std.specs.Prelude.{◌≡◌, true, false, ◌+◌, ◌<◌};
+ghost use Rattle.std.specs.Prelude.{◌≡◌, true, false, ◌+◌};
 ghost use Rattle.model.specs.rules.Base.{Bytes};
 ghost use Rattle.model.specs.declared.Dialect.TheVariants.{Tdif};
 ghost use Rattle.model.specs.rules.Dialect.{is_csvj, into};
@@ -11,9 +11,10 @@ ghost use Rattle.model.specs.rules.Records.{◌or_else◌, has_kind, uncarried_f
 ghost use Rattle.buffer.specs.Writes.{Room, WrittenAt};
 ghost use Rattle.cell_decoder.specs.Sources.{kind_from, content_by, cells_in, Encoded, Cells};
 ghost use Rattle.cell_writer.specs.Cells.{value_of};
-ghost use Rattle.record_writer.specs.Columns.{before_cell, is_first, column_text, uncarried_cell, check_of};
+ghost use Rattle.record_writer.specs.Columns.{is_first, column_text, uncarried_cell};
 ghost use Rattle.record_writer.specs.Verbatim.{Direct};
 
+use crate::clean::quotes;
 use crate::verbatim;
 use cell_decoder::source;
 use cell_decoder::source::Source;
@@ -35,11 +36,8 @@ fn tdif_has_kind(k: Kind) -> bool
     ensures { result ≡ has_kind Tdif k }
 {
     match k {
-        Kind::Text => true,
-        Kind::Number => false,
-        Kind::True => false,
-        Kind::False => false,
-        Kind::Null => true,
+        Kind::Text | Kind::Null => true,
+        Kind::Number | Kind::True | Kind::False => false,
     }
 }
 
@@ -54,74 +52,40 @@ fn has_kind(t: Dialect, k: Kind) -> bool
     }
 }
 
-// The check result so far: sound where the column is 0, else the first cell that the target can't represent, and whether it holds a lone
-// surrogate or is of a kind that the target lacks. Two numbers, since an enum in the loop would go through memory.
-#[derive(Clone, Copy)]
-struct FirstFault {
-    column: usize,
+// The check result so far, or else that of the cell in this column, in whose content a lone surrogate was found or not.
+fn with_cell(
+    carries: Result<(), Fault>,
+    t: Dialect,
+    number: u8,
     lone: bool,
-}
-
-// The same with the cell in this column, in whose content a lone surrogate was found or not.
-fn with_cell(said: FirstFault, t: Dialect, number: u8, lone: bool, column: usize) -> FirstFault
-    requires { 0 < column }
+    column: usize,
+) -> Result<(), Fault>
     ensures { (content : Bytes) → (is_text (kind_from number) ≡ true → is_csvj t ≡ false → lone ≡ holds_lone content)
-        → check_of result.column result.lone ≡ (check_of said.column said.lone or_else uncarried_cell t column (kind_from number) content) }
+        → result ≡ (carries or_else uncarried_cell t column (kind_from number) content) }
 {
+    carries?;
     if escape::is_csvj(t) {
-        return said;
-    }
-    if said.column != 0 {
-        return said;
+        return Ok(());
     }
     let kind = source::kind_of_number(number);
     if !has_kind(t, kind) {
-        return FirstFault {
-            column,
-            lone: false,
-        };
+        return Err(Fault::LacksKind { column });
     }
     if !source::is_text(kind) {
-        return said;
-    }
-    if lone {
-        return FirstFault { column, lone: true };
-    }
-    said
-}
-
-fn check_result(said: FirstFault) -> Result<(), Fault>
-    ensures { result ≡ check_of said.column said.lone }
-{
-    let column = said.column;
-    if column == 0 {
         return Ok(());
     }
-    if said.lone {
+    if lone {
         return Err(Fault::LoneSurrogate { column });
     }
-    Err(Fault::LacksKind { column })
+    Ok(())
 }
 
 // ---- columns
 
-fn write_delimiter(t: Dialect, n: usize, out: &mut [u8], o: usize, write: bool) -> usize
-    requires { Room write o (before_cell t n) out.old }
-    ensures { WrittenAt write out.old o (before_cell t n) out.new result }
-{
-    if n == 0 {
-        return o;
-    }
-    buffer::emit_byte(out, o, cell_lexer::delimiter_of(t), write)
-}
-
 fn is_first(n: usize, header: bool) -> bool
     ensures { result ≡ is_first n header }
 {
-    if n == 0 {
-        return header;
-    }
-    false
+    n == 0 && header
 }
 
 // The cell at place n, with a delimiter before it unless it is the first. Here a cell passes from reading to writing (`carried` of model's
@@ -145,7 +109,7 @@ fn write_column(
     ensures written_at { WrittenAt write out.old at (column_text t n only header (value_of src (kind_from number) raw.now)) out.new result.end }
     ensures lone_value { is_text (kind_from number) ≡ true → is_csvj t ≡ false → result.lone ≡ holds_lone (content_by src raw.now) }
 {
-    let from = write_delimiter(t, n, out, at, write);
+    let from = quotes::write_delimiter(cell_lexer::delimiter_of(t), n, out, at, write);
     verbatim::write_verbatim(
         src,
         t,
@@ -184,13 +148,10 @@ pub fn write_record(
 {
     let only = starts.len() == 1;
     let direct = verbatim::is_direct(src, t);
-    let mut n = 0;
     let mut o = at;
-    let mut said = FirstFault {
-        column: 0,
-        lone: false,
-    };
-    while n < starts.len() {
+    let mut carries: Result<(), Fault> = Ok(());
+    // By place: only the first cell has no delimiter before it, and a fault names its column.
+    for n in 0..starts.len() {
         let from = starts[n];
         let upto = ends[n];
         let number = kinds[n];
@@ -208,13 +169,9 @@ pub fn write_record(
             write,
         );
         o = x.end;
-        said = with_cell(said, t, number, x.lone, n + 1);
-        n += 1;
+        carries = with_cell(carries, t, number, x.lone, n + 1);
     }
-    RecordText {
-        end: o,
-        carries: check_result(said),
-    }
+    RecordText { end: o, carries }
 }
 
 // A record's ending.
@@ -223,8 +180,7 @@ pub fn write_ending(t: Dialect, out: &mut [u8], o: usize, write: bool) -> usize
     ensures { WrittenAt write out.old o (ending t) out.new result }
 {
     match t {
-        Dialect::Csvj => buffer::emit_byte(out, o, 0x0A, write),
-        Dialect::Tdif => buffer::emit_byte(out, o, 0x0A, write),
-        Dialect::CsvPlus(_) => buffer::emit(out, o, &[0x0D, 0x0A], write),
+        Dialect::Csvj | Dialect::Tdif => buffer::emit_byte(out, o, b'\n', write),
+        Dialect::CsvPlus(_) => buffer::emit(out, o, &[b'\r', b'\n'], write),
     }
 }

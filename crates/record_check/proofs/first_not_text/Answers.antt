@@ -1,4 +1,4 @@
-use mathlib.Core.Path.{◌≡◌, refl, sym, ap, ◌∙◌}
+use mathlib.Core.Path.{◌≡◌, sym, ap, ◌∙◌}
 use native.Mathlib.Omega.{arith}
 use lib.ListN.{get_or}
 use Rattle.model.specs.rules.Text.{is_text}
@@ -6,29 +6,17 @@ use Rattle.cell_decoder.specs.Sources.{kind_from}
 use Rattle.record_check.proofs.Records.{not_text_end, not_text_here, not_text_next}
 use Rattle.record_check.proofs.first_not_text.Goals as goal
 
-pub loop-n-init : goal.loop-n-init
-loop-n-init c = (omega arith, refl)
-
 pub returns-then-not-is_text : goal.returns-then-not-is_text
 returns-then-not-is_text c =
-    let told : c.is_text.result ≡ is_text (kind_from (get_or c.args.kinds.now c.loop-n.n 0)) =
+    let at_n : c.is_text.result ≡ is_text (kind_from (get_or c.args.kinds.now c.loop-n.n 0)) =
     c.is_text.ensures ∙ ap is_text c.kind_of_number.ensures in
-    let kinds = c.args.kinds.now in
-    sym
-    (c.loop-n.invariant.1
-    ∙ not_text_here kinds c.loop-n.n c.loop-n-test.true
-    (sym told ∙ c.if-not-is_text.true))
+    sym (c.loop-n.invariant ∙ not_text_here c.args.kinds.now c.loop-n.n (omega arith) (sym at_n ∙ c.if-not-is_text.true))
 
 pub loop-n-preserved : goal.loop-n-preserved
 loop-n-preserved c =
-    let told : c.is_text.result ≡ is_text (kind_from (get_or c.args.kinds.now c.loop-n.n 0)) =
+    let at_n : c.is_text.result ≡ is_text (kind_from (get_or c.args.kinds.now c.loop-n.n 0)) =
     c.is_text.ensures ∙ ap is_text c.kind_of_number.ensures in
-    let kinds = c.args.kinds.now in (
-      omega (arith, c.loop-n-test.true),
-      c.loop-n.invariant.1
-          ∙ not_text_next kinds c.loop-n.n c.loop-n-test.true
-          (sym told ∙ c.if-not-is_text.false),
-    )
+    c.loop-n.invariant ∙ not_text_next c.args.kinds.now c.loop-n.n (omega arith) (sym at_n ∙ c.if-not-is_text.false)
 
 pub returns : goal.returns
-returns c = sym (c.loop-n.invariant.1 ∙ not_text_end c.args.kinds.now c.loop-n.n c.loop-n-test.false)
+returns c = sym (c.loop-n.invariant ∙ not_text_end c.args.kinds.now c.loop-n.n (omega arith))

@@ -1,33 +1,13 @@
 -- The target's checks come after the source's, and only where those find no fault.
-use mathlib.Core.Path.{◌≡◌, sym, ◌∙◌}
-use Rattle.model.specs.declared.Fault.{Fault}
-use Rattle.model.specs.rules.Types.{CheckResult}
-use Rattle.std.specs.Prelude.{Ok, Err}
-use Rattle.model.specs.rules.Records.{◌or_else◌}
-use Rattle.model.proofs.file_laws.CheckResults.{fault_sound}
+use mathlib.Core.Path.{sym, ◌∙◌}
+use Rattle.std.proofs.lemmas.Result.{err_from_is_err_and}
+use Rattle.record_target.proofs.Reasons.{or_fault, or_sound}
 use Rattle.record_target.proofs.check_record.Goals as goal
 
-or-faulty : (v w : CheckResult) (e : Fault) → v ≡ Err e → (v or_else w) ≡ Err e
-unfolding ◌or_else◌
-or-faulty v w e h = rw h
-
-or_sound : (v w : CheckResult) → v ≡ Ok tt → (v or_else w) ≡ w
-unfolding ◌or_else◌
-or_sound v w h = rw h
-
-pub returns-in-Err : goal.returns-in-Err
-returns-in-Err c =
-    let told = c.in-Err.is in
-    let check = c.check in record {
-      verdict_value = c.refused.ensures ∙ sym (or-faulty _ _ _ (sym check.ensures ∙ told));
-      length_value = λ s. fault_sound (sym c.refused.ensures ∙ s);
-    }
+pub returns-in_err-check : goal.returns-in_err-check
+returns-in_err-check c =
+    let p = err_from_is_err_and c.from_residual.result c.from_residual.ensures.1 in
+    rw (p.1, p.2, or_fault _ (sym c.check.ensures ∙ c.in_err-check.was))
 
 pub returns : goal.returns
-returns c =
-    let sound = c.in_default.is in
-    let check = c.check in
-    record {
-      verdict_value = c.check_target.ensures.verdict_value ∙ sym (or_sound _ _ (sym check.ensures ∙ sound));
-      length_value = c.check_target.ensures.length_value;
-    }
+returns c = rw (or_sound _ (sym c.check.ensures ∙ c.in_ok-check.was)) c.check_target.ensures

@@ -1,5 +1,4 @@
 -- `record_target::check_size` meets its contract: its tests are the definition's.
-use mathlib.Core.Path.{refl}
 use native.Mathlib.Omega.{arith}
 use lib.ListN.{length}
 use Rattle.record_target.proofs.Reasons.{measure_is, measure_over, text_too_long, output_too_long, fits}
@@ -8,7 +7,7 @@ use Rattle.record_target.proofs.check_size.Goals as goal
 pub returns-then-end-gt-MAX_RECORD : goal.returns-then-end-gt-MAX_RECORD
 returns-then-end-gt-MAX_RECORD c text e =
     let a = c.args in
-    text_too_long a.t a.written text _ _ c.refused.ensures (measure_over (length text) a.end e (omega arith))
+    text_too_long a.t a.written text (measure_over (length text) a.end e (omega arith))
 
 pub with_ending-length-requires : goal.with_ending-length-requires
 with_ending-length-requires c = omega (arith, c.if-end-gt-MAX_RECORD.false)
@@ -21,7 +20,7 @@ returns-then-written-length c text e =
     let a = c.args in
     let short = c.if-end-gt-MAX_RECORD.false in
     let is = measure_is (length text) a.end e (omega (arith, short)) in
-    output_too_long a.t a.written text _ _ (omega (arith, is, short)) c.refused-then-written-length.ensures
+    output_too_long a.t a.written text (omega (arith, is, short))
     (omega (arith, is, c.if-written-length.true, c.with_ending-length.ensures, c.requires))
 
 pub returns : goal.returns
@@ -29,5 +28,5 @@ returns c text e =
     let a = c.args in
     let short = c.if-end-gt-MAX_RECORD.false in
     let is = measure_is (length text) a.end e (omega (arith, short)) in
-    fits a.t a.written text _ _ (omega (arith, is, short)) refl (omega (arith, is, c.with_ending-length.ensures))
+    fits a.t a.written text (omega (arith, is, short)) _ (omega (arith, is, c.with_ending-length.ensures))
     (omega (arith, c.if-written-length.false, c.with_ending-length.ensures, c.requires))

@@ -10,12 +10,12 @@ use Rattle.record_target.proofs.name_clash.Goals as goal
 pub returns-then-not-header : goal.returns-then-not-header
 returns-then-not-header c kinds k = ap (λ (header : Bool). clash_fault c.args.t header (cells_in c.args.src c.args.s.now c.args.starts.now c.args.ends.now kinds)) (sym (c.if-not-header.true))
 
-pub returns-in-NoRepeat : goal.returns-in-NoRepeat
-returns-in-NoRepeat c kinds k =
-    sym (ap (repeated_as Clash) c.in-NoRepeat.is) ∙ c.first_repeat.ensures Clash kinds k
+pub returns-in-None : goal.returns-in-None
+returns-in-None c kinds k =
+    sym (ap (repeated_as Clash) c.in-None.is) ∙ c.first_repeat.ensures Clash kinds k
     ∙ ap (λ (header : Bool). clash_fault c.args.t header (cells_in c.args.src c.args.s.now c.args.starts.now c.args.ends.now kinds)) (sym (c.if-not-header.false))
 
-pub returns-in-AtColumn : goal.returns-in-AtColumn
-returns-in-AtColumn c kinds k =
-    sym (ap (repeated_as Clash) c.in-AtColumn.is) ∙ c.first_repeat.ensures Clash kinds k
+pub returns-in-Some : goal.returns-in-Some
+returns-in-Some c kinds k =
+    sym (ap (repeated_as Clash) c.in-Some.is) ∙ c.first_repeat.ensures Clash kinds k
     ∙ ap (λ (header : Bool). clash_fault c.args.t header (cells_in c.args.src c.args.s.now c.args.starts.now c.args.ends.now kinds)) (sym (c.if-not-header.false))

@@ -15,12 +15,10 @@ fn holds_from(bs: &[u8], at: usize, p: u8) -> bool
     requires { at ≤ length bs.now }
     ensures { result ≡ holds (is_byte p) (drop at bs.now) }
 {
-    let mut i = at;
-    while i < bs.len() {
+    for i in at..bs.len() {
         if bs[i] == p {
             return true;
         }
-        i += 1;
     }
     false
 }
@@ -29,6 +27,7 @@ fn holds_from(bs: &[u8], at: usize, p: u8) -> bool
 fn holds_byte(bs: &[u8], p: u8) -> bool
     ensures { result ≡ holds (is_byte p) bs.now }
 {
+    // By place: a step is a word of eight bytes, and the rest is shorter than one.
     let mut i = 0;
     while 8 <= bs.len() - i {
         let same = swar::other_than(swar::word(bs, i), p) ^ 0x8080808080808080;
@@ -43,13 +42,7 @@ fn holds_byte(bs: &[u8], p: u8) -> bool
 fn needs_quotes(bs: &[u8], p: u8, only: bool) -> bool
     ensures { result ≡ needs_quotes p only bs.now }
 {
-    if holds_byte(bs, p) {
-        return true;
-    }
-    if only {
-        return bs.len() == 0;
-    }
-    false
+    holds_byte(bs, p) || only && bs.is_empty()
 }
 
 // ---- cells
@@ -58,19 +51,13 @@ fn write_text(bs: &[u8], p: u8, only: bool, out: &mut [u8], o: usize, write: boo
     requires { Room write o (marked (needs_quotes p only bs.now) bs.now) out.old }
     ensures { WrittenAt write out.old o (marked (needs_quotes p only bs.now) bs.now) out.new result }
 {
-    let quoted = needs_quotes(bs, p, only);
-    let from = quotes::write_quote(quoted, out, o, write);
-    let end = buffer::emit(out, from, bs, write);
-    quotes::write_quote(quoted, out, end, write)
+    crate::quotes::write_marked(needs_quotes(bs, p, only), bs, out, o, write)
 }
 
 fn quotes_before(raw: &[u8]) -> usize
     ensures { result ≡ quotes_by (begins QUOTE raw.now) }
 {
-    if quotes::has_quotes(raw) {
-        return 1;
-    }
-    0
+    if quotes::has_quotes(raw) { 1 } else { 0 }
 }
 
 fn write_column(
@@ -109,13 +96,12 @@ pub fn write_csv_plus(
         out.new result }
 {
     let only = starts.len() == 1;
-    let mut n = 0;
     let mut o = at;
-    while n < starts.len() {
+    // By place: only the first cell has no delimiter before it.
+    for n in 0..starts.len() {
         let from = starts[n];
         let upto = ends[n];
         o = write_column(&s[from..upto], n, p, only, out, o, write);
-        n += 1;
     }
     o
 }

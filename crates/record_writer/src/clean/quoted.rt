@@ -11,21 +11,22 @@ use crate::clean::quotes;
 
 // ---- writing
 
+// By `copy` and not by `write_marked`, which would test at each cell whether it writes or measures.
 fn write_cell(raw: &[u8], out: &mut [u8], o: usize) -> usize
     requires { Room true o (quoted_cell raw.now) out.old }
     ensures { WrittenAt true out.old o (quoted_cell raw.now) out.new result }
 {
     let bare = !quotes::has_quotes(raw);
-    let from = quotes::write_quote(bare, out, o, true);
+    let from = crate::quotes::write_quote(bare, out, o, true);
     let end = buffer::copy(out, from, raw);
-    quotes::write_quote(bare, out, end, true)
+    crate::quotes::write_quote(bare, out, end, true)
 }
 
 fn write_column(raw: &[u8], n: usize, out: &mut [u8], o: usize) -> usize
     requires { Room true o (before COMMA n ++ quoted_cell raw.now) out.old }
     ensures { WrittenAt true out.old o (before COMMA n ++ quoted_cell raw.now) out.new result }
 {
-    let from = quotes::write_delimiter(0x2C, n, out, o, true);
+    let from = quotes::write_delimiter(b',', n, out, o, true);
     write_cell(raw, out, from)
 }
 
@@ -34,13 +35,12 @@ fn write(s: &[u8], starts: &[usize], ends: &[usize], out: &mut [u8], at: usize) 
     requires room { Room true at (joined_from COMMA quoted_cell s.now 0 starts.now ends.now) out.old }
     ensures { WrittenAt true out.old at (joined_from COMMA quoted_cell s.now 0 starts.now ends.now) out.new result }
 {
-    let mut n = 0;
     let mut o = at;
-    while n < starts.len() {
+    // By place: only the first cell has no delimiter before it.
+    for n in 0..starts.len() {
         let from = starts[n];
         let upto = ends[n];
         o = write_column(&s[from..upto], n, out, o);
-        n += 1;
     }
     o
 }
@@ -72,13 +72,12 @@ fn measure(s: &[u8], starts: &[usize], ends: &[usize], at: usize) -> usize
     requires at_bound { at ≤ MAXFILE }
     ensures { result ≡ measure (at + length (joined_from COMMA quoted_cell s.now 0 starts.now ends.now)) }
 {
-    let mut n = 0;
     let mut o = at;
-    while n < starts.len() {
+    // By place: only the first cell has no delimiter before it.
+    for n in 0..starts.len() {
         let from = starts[n];
         let upto = ends[n];
         o = buffer::measured(o, column_length(&s[from..upto], n));
-        n += 1;
     }
     o
 }
@@ -97,7 +96,8 @@ pub fn write_quoted(
     ensures { WrittenAt write out.old at (joined_from COMMA quoted_cell s.now 0 starts.now ends.now) out.new result }
 {
     if write {
-        return self::write(s, starts, ends, out, at);
+        self::write(s, starts, ends, out, at)
+    } else {
+        measure(s, starts, ends, at)
     }
-    measure(s, starts, ends, at)
 }

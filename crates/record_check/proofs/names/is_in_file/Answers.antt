@@ -6,13 +6,6 @@ use Rattle.model.specs.rules.Records.{name_key}
 use Rattle.record_check.proofs.DecodedNames.{Holds, holds}
 use Rattle.record_check.proofs.names.is_in_file.Goals as goal
 
-pub slice_bounds-same_name-end : goal.slice_bounds-same_name-end
-slice_bounds-same_name-end c =
-    let held : (let s = c.args in Holds (content_of s.d s.raw.now) c.write_content-size.new.room c.write_content-size.result) =
-    let s = c.args in
-    holds (content_of s.d s.raw.now) s.room.now _ _ c.write_content-size.ensures in
-    held.inside
-
 pub slice_bounds-same_name-end-2 : goal.slice_bounds-same_name-end-2
 slice_bounds-same_name-end-2 c =
     let held : (let s = c.args in Holds (content_of s.d s.raw.now) c.write_content-size.new.room c.write_content-size.result) =

@@ -8,27 +8,6 @@ use Rattle.record_check.specs.Keys.{NameIn, key_at, keys_before}
 use Rattle.record_check.proofs.Keys.{short_in_file, names_as}
 use Rattle.record_check.proofs.names.repeats.Goals as goal
 
-pub bounds-ends-n : goal.bounds-ends-n
-bounds-ends-n c = omega (arith, c.requires.names_in.paired, c.requires.n_in_bounds)
-
-pub slice_bounds-repeats_in_file-count : goal.slice_bounds-repeats_in_file-count
-slice_bounds-repeats_in_file-count c =
-    let at_n : NameIn c.args.src c.args.s.now (get_or c.args.starts.now c.args.n 0) (get_or c.args.ends.now c.args.n 0) =
-    c.requires.names_in.each c.args.n c.requires.n_in_bounds in
-    at_n.forward
-
-pub slice_bounds-repeats_in_file-start : goal.slice_bounds-repeats_in_file-start
-slice_bounds-repeats_in_file-start c =
-    let at_n : NameIn c.args.src c.args.s.now (get_or c.args.starts.now c.args.n 0) (get_or c.args.ends.now c.args.n 0) =
-    c.requires.names_in.each c.args.n c.requires.n_in_bounds in
-    at_n.forward
-
-pub slice_bounds-repeats_in_file-end : goal.slice_bounds-repeats_in_file-end
-slice_bounds-repeats_in_file-end c =
-    let at_n : NameIn c.args.src c.args.s.now (get_or c.args.starts.now c.args.n 0) (get_or c.args.ends.now c.args.n 0) =
-    c.requires.names_in.each c.args.n c.requires.n_in_bounds in
-    at_n.within
-
 pub repeats_in_file-requires : goal.repeats_in_file-requires
 repeats_in_file-requires c =
     let at_n : NameIn c.args.src c.args.s.now (get_or c.args.starts.now c.args.n 0) (get_or c.args.ends.now c.args.n 0) =
@@ -39,27 +18,6 @@ repeats_in_file-requires c =
       names_in = names_as e c.requires.names_in;
       n_in_bounds = omega (arith, c.requires.n_in_bounds);
     }
-
-pub slice_bounds-is_among-count : goal.slice_bounds-is_among-count
-slice_bounds-is_among-count c =
-    let at_n : NameIn c.args.src c.args.s.now (get_or c.args.starts.now c.args.n 0) (get_or c.args.ends.now c.args.n 0) =
-    c.requires.names_in.each c.args.n c.requires.n_in_bounds in
-    at_n.forward
-
-pub slice_bounds-is_among-start : goal.slice_bounds-is_among-start
-slice_bounds-is_among-start c =
-    let at_n : NameIn c.args.src c.args.s.now (get_or c.args.starts.now c.args.n 0) (get_or c.args.ends.now c.args.n 0) =
-    c.requires.names_in.each c.args.n c.requires.n_in_bounds in
-    at_n.forward
-
-pub slice_bounds-is_among-end : goal.slice_bounds-is_among-end
-slice_bounds-is_among-end c =
-    let at_n : NameIn c.args.src c.args.s.now (get_or c.args.starts.now c.args.n 0) (get_or c.args.ends.now c.args.n 0) =
-    c.requires.names_in.each c.args.n c.requires.n_in_bounds in
-    at_n.within
-
-pub is_among-requires : goal.is_among-requires
-is_among-requires c = record { names_in = c.requires.names_in; n_in_bounds = omega (arith, c.requires.n_in_bounds) }
 
 pub returns-in-File : goal.returns-in-File
 returns-in-File c =

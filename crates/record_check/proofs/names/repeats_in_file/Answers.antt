@@ -14,23 +14,11 @@ use Rattle.record_check.proofs.names.repeats_in_file.Goals as goal
 abbrev zeros : Bytes
 zeros = replicate MAXRECORD 0
 
-pub write_content-size-requires : goal.write_content-size-requires
-write_content-size-requires c = c.requires.raw_len_bound
-
-pub slice_bounds-room-end : goal.slice_bounds-room-end
-slice_bounds-room-end c =
-    let held : Holds (content_of c.args.d c.args.raw.now) c.write_content-size.new.room c.write_content-size.result =
-    holds (content_of c.args.d c.args.raw.now) zeros _ _ c.write_content-size.ensures in
-    held.inside
-
 pub slice_bounds-is_among-end : goal.slice_bounds-is_among-end
 slice_bounds-is_among-end c =
     let held : Holds (content_of c.args.d c.args.raw.now) c.write_content-size.new.room c.write_content-size.result =
     holds (content_of c.args.d c.args.raw.now) zeros _ _ c.write_content-size.ensures in
     held.whole
-
-pub is_among-requires : goal.is_among-requires
-is_among-requires c = record { names_in = c.requires.names_in; n_in_bounds = c.requires.n_in_bounds }
 
 pub returns : goal.returns
 returns c =

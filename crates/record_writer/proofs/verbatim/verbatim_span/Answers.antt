@@ -3,7 +3,9 @@ use mathlib.Core.Path.{◌≡◌, ap, ◌∙◌}
 use mathlib.Core.Bool.{true}
 use Prim.Native.Nat.{ℕ}
 use native.Mathlib.Omega.{arith}
+use Rattle.std.proofs.Common.{rules, tests}
 use Rattle.model.specs.rules.Text.{is_text}
+use Rattle.swar.specs.Words.{plain_text}
 use Rattle.cell_decoder.specs.Sources.{kind_from}
 use Rattle.record_writer.specs.Verbatim.{looks_plain, looks_encoded}
 use Rattle.record_writer.proofs.VerbatimLaws.{text_number, quotes_inside, quotes_inner}
@@ -18,16 +20,16 @@ returns-then-number-ne1 c = looks_encoded
 pub overflow_sub-upto : goal.overflow_sub-upto
 overflow_sub-upto c = (quotes_inside c.quotes_around-from.ensures).0
 
-pub all_plain-requires : goal.all_plain-requires
-all_plain-requires c = ((quotes_inside c.quotes_around-from.ensures).1, omega arith)
+pub all_words-requires-clause-span : goal.all_words-requires-clause-span
+all_words-requires-clause-span c = ((quotes_inside c.quotes_around-from.ensures).1, omega arith)
 
-pub returns-then-all_plain : goal.returns-then-all_plain
-returns-then-all_plain c =
+pub returns-then-all_words : goal.returns-then-all_words
+returns-then-all_words c =
     let direct : c.args.direct ≡ true =
     c.if-not-direct.false in
     let text : is_text (kind_from c.args.number) ≡ true =
     ap (λ (n : ℕ). is_text (kind_from n)) c.if-number-ne1.false ∙ text_number in
-    looks_plain (direct) (text) (quotes_inner c.quotes_around-from.ensures (c.all_plain.ensures c.if-all_plain.true))
+    looks_plain (direct) (text) (quotes_inner c.quotes_around-from.ensures (c.all_words.ensures plain_text (λ w flags h p. search (rules, tests)) c.if-all_words.true))
 
 pub returns : goal.returns
 returns c = looks_encoded

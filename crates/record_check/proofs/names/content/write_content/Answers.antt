@@ -9,5 +9,5 @@ returns-in_default c =
 
 pub returns : goal.returns
 returns c =
-    decoded c.args.d c.args.raw.now c.args.room.now c.requires c.decode_sound.result _ _ _
-    c.in-Content.is (c.decode_sound.ensures.result_value, c.decode_sound.ensures.room_after)
+    decoded c.args.d c.args.raw.now c.args.room.now c.requires c.decode_sound.result _ _
+    c.in-Ok.is (c.decode_sound.ensures.result_value, c.decode_sound.ensures.room_after)

@@ -1,49 +1,12 @@
--- A quotation mark or none is written, then the bytes, then the same again.
-use mathlib.Core.Path.{◌≡◌, sym, ap}
-use mathlib.Core.List.{◌++◌}
-use Rattle.model.specs.rules.Base.{Bytes}
-use Rattle.buffer.proofs.WriteProgress.{Emitting, emitting, room_as, emitted_as, room_next, room_rest, put_next}
-use Rattle.record_writer.proofs.Columns.{written_last}
-use Rattle.record_writer.specs.CleanCellText.{quote_if, marked, needs_quotes}
+-- The text is written in quotation marks if it needs them.
+use mathlib.Core.Path.{sym, ap}
+use mathlib.Core.Bool.{Bool}
+use Rattle.buffer.proofs.WriteProgress.{room_as, emitted_as}
+use Rattle.record_writer.specs.CleanCellText.{marked}
 use Rattle.record_writer.proofs.clean.plus.write_text.Goals as goal
 
-pub write_quote-from-requires : goal.write_quote-from-requires
-write_quote-from-requires c =
-    let mark : Bytes = quote_if (needs_quotes c.args.p c.args.only c.args.bs.now) in
-    let same : quote_if c.needs_quotes-quoted.result ≡ mark =
-    ap quote_if c.needs_quotes-quoted.ensures in
-    room_as (same) (room_next mark (c.args.bs.now ++ mark) (emitting c.args.write c.requires))
-
-pub emit-end-requires : goal.emit-end-requires
-emit-end-requires c =
-    let mark : Bytes = quote_if (needs_quotes c.args.p c.args.only c.args.bs.now) in
-    let text : Bytes = marked (needs_quotes c.args.p c.args.only c.args.bs.now) c.args.bs.now in
-    let same : quote_if c.needs_quotes-quoted.result ≡ mark =
-    ap quote_if c.needs_quotes-quoted.ensures in
-    let second : (let a = c.args in Emitting a.write a.out.now a.o text c.write_quote-from.new.out c.write_quote-from.result (a.bs.now ++ mark)) =
-    put_next mark (emitting c.args.write c.requires) (emitted_as (sym (same)) c.write_quote-from.ensures) in
-    room_next c.args.bs.now mark (second)
-
-pub write_quote-requires : goal.write_quote-requires
-write_quote-requires c =
-    let mark : Bytes = quote_if (needs_quotes c.args.p c.args.only c.args.bs.now) in
-    let text : Bytes = marked (needs_quotes c.args.p c.args.only c.args.bs.now) c.args.bs.now in
-    let same : quote_if c.needs_quotes-quoted.result ≡ mark =
-    ap quote_if c.needs_quotes-quoted.ensures in
-    let second : (let a = c.args in Emitting a.write a.out.now a.o text c.write_quote-from.new.out c.write_quote-from.result (a.bs.now ++ mark)) =
-    put_next mark (emitting c.args.write c.requires) (emitted_as (sym (same)) c.write_quote-from.ensures) in
-    let third : (let a = c.args in Emitting a.write a.out.now a.o text c.emit-end.new.out c.emit-end.result mark) =
-    put_next c.args.bs.now (second) c.emit-end.ensures in
-    room_as (same) (room_rest (third))
+pub write_marked-requires : goal.write_marked-requires
+write_marked-requires c = room_as (ap (λ (b : Bool). marked b c.args.bs.now) c.needs_quotes.ensures) c.requires
 
 pub returns : goal.returns
-returns c =
-    let mark : Bytes = quote_if (needs_quotes c.args.p c.args.only c.args.bs.now) in
-    let text : Bytes = marked (needs_quotes c.args.p c.args.only c.args.bs.now) c.args.bs.now in
-    let same : quote_if c.needs_quotes-quoted.result ≡ mark =
-    ap quote_if c.needs_quotes-quoted.ensures in
-    let second : (let a = c.args in Emitting a.write a.out.now a.o text c.write_quote-from.new.out c.write_quote-from.result (a.bs.now ++ mark)) =
-    put_next mark (emitting c.args.write c.requires) (emitted_as (sym (same)) c.write_quote-from.ensures) in
-    let third : (let a = c.args in Emitting a.write a.out.now a.o text c.emit-end.new.out c.emit-end.result mark) =
-    put_next c.args.bs.now (second) c.emit-end.ensures in
-    written_last (third) (emitted_as (sym (same)) c.write_quote.ensures)
+returns c = emitted_as (sym (ap (λ (b : Bool). marked b c.args.bs.now) c.needs_quotes.ensures)) c.write_marked.ensures

@@ -14,41 +14,20 @@ use Rattle.record_writer.proofs.clean.quoted.measure.Goals as goal
 pub loop-n-init : goal.loop-n-init
 loop-n-init c = written_none false (record { measured = λ _. c.requires.at_bound; inside = λ e. impossible e })
 
-pub bounds-ends-n : goal.bounds-ends-n
-bounds-ends-n c = omega (arith, c.requires.spans.with_ends)
-
-pub slice_bounds-column_length-count : goal.slice_bounds-column_length-count
-slice_bounds-column_length-count c =
-    let at_n : (let a = c.args in let n = c.loop-n.n in Lies a.s.now (get_or a.starts.now n 0) (get_or a.ends.now n 0)) =
-    c.requires.spans.each c.loop-n.n c.loop-n-test.true in
-    (at_n).forward
-
-pub slice_bounds-column_length-start : goal.slice_bounds-column_length-start
-slice_bounds-column_length-start c =
-    let at_n : (let a = c.args in let n = c.loop-n.n in Lies a.s.now (get_or a.starts.now n 0) (get_or a.ends.now n 0)) =
-    c.requires.spans.each c.loop-n.n c.loop-n-test.true in
-    (at_n).forward
-
-pub slice_bounds-column_length-end : goal.slice_bounds-column_length-end
-slice_bounds-column_length-end c =
-    let at_n : (let a = c.args in let n = c.loop-n.n in Lies a.s.now (get_or a.starts.now n 0) (get_or a.ends.now n 0)) =
-    c.requires.spans.each c.loop-n.n c.loop-n-test.true in
-    (at_n).inside
-
 pub column_length-requires : goal.column_length-requires
 column_length-requires c =
     let at_n : (let a = c.args in let n = c.loop-n.n in Lies a.s.now (get_or a.starts.now n 0) (get_or a.ends.now n 0)) =
-    c.requires.spans.each c.loop-n.n c.loop-n-test.true in
+    c.requires.spans.each c.loop-n.n (omega arith) in
     (at_n).short
 
 pub measured-o-requires : goal.measured-o-requires
-measured-o-requires c = (room_cell c.requires.spans.with_ends c.loop-n.invariant c.loop-n-test.true).measured refl
+measured-o-requires c = (room_cell c.requires.spans.with_ends c.loop-n.invariant (omega arith)).measured refl
 
 pub loop-n-preserved : goal.loop-n-preserved
 loop-n-preserved c =
-    put_cell c.requires.spans.with_ends c.loop-n.invariant c.loop-n-test.true
+    put_cell c.requires.spans.with_ends c.loop-n.invariant (omega arith)
     (put_measured refl (c.measured-o.ensures ∙ ap (λ (k : ℕ). measure (c.loop-n.o + k)) c.column_length.ensures) refl)
 
 pub returns : goal.returns
 unfolding choose◌then◌else◌
-returns c = (put_all c.requires.spans.with_ends c.loop-n.invariant c.loop-n-test.false).place
+returns c = (put_all c.requires.spans.with_ends c.loop-n.invariant (omega arith)).place

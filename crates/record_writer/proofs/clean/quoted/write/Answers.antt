@@ -1,43 +1,20 @@
 use mathlib.Core.Bool.{true}
 use native.Mathlib.Omega.{arith}
-use lib.ListN.{get_or}
 use Rattle.buffer.proofs.WriteProgress.{same_long}
-use Rattle.record_writer.specs.Joined.{Lies}
 use Rattle.record_writer.proofs.Joined.{written_none, room_cell, put_cell, put_all}
 use Rattle.record_writer.proofs.clean.quoted.write.Goals as goal
 
 pub loop-n-init : goal.loop-n-init
 loop-n-init c = written_none true c.requires.room
 
-pub bounds-ends-n : goal.bounds-ends-n
-bounds-ends-n c = omega (arith, c.requires.spans.with_ends)
-
-pub slice_bounds-write_column-count : goal.slice_bounds-write_column-count
-slice_bounds-write_column-count c =
-    let at_n : (let a = c.args in let n = c.loop-n.n in Lies a.s.now (get_or a.starts.now n 0) (get_or a.ends.now n 0)) =
-    c.requires.spans.each c.loop-n.n c.loop-n-test.true in
-    (at_n).forward
-
-pub slice_bounds-write_column-start : goal.slice_bounds-write_column-start
-slice_bounds-write_column-start c =
-    let at_n : (let a = c.args in let n = c.loop-n.n in Lies a.s.now (get_or a.starts.now n 0) (get_or a.ends.now n 0)) =
-    c.requires.spans.each c.loop-n.n c.loop-n-test.true in
-    (at_n).forward
-
-pub slice_bounds-write_column-end : goal.slice_bounds-write_column-end
-slice_bounds-write_column-end c =
-    let at_n : (let a = c.args in let n = c.loop-n.n in Lies a.s.now (get_or a.starts.now n 0) (get_or a.ends.now n 0)) =
-    c.requires.spans.each c.loop-n.n c.loop-n-test.true in
-    (at_n).inside
-
 pub write_column-o-requires : goal.write_column-o-requires
-write_column-o-requires c = room_cell c.requires.spans.with_ends c.loop-n.invariant c.loop-n-test.true
+write_column-o-requires c = room_cell c.requires.spans.with_ends c.loop-n.invariant (omega arith)
 
 pub loop-n-preserved : goal.loop-n-preserved
-loop-n-preserved c = put_cell c.requires.spans.with_ends c.loop-n.invariant c.loop-n-test.true c.write_column-o.ensures
+loop-n-preserved c = put_cell c.requires.spans.with_ends c.loop-n.invariant (omega arith) c.write_column-o.ensures
 
 pub shape_of-out : goal.shape_of-out
 shape_of-out c = same_long c.loop-n.invariant.going
 
 pub returns : goal.returns
-returns c = put_all c.requires.spans.with_ends c.loop-n.invariant c.loop-n-test.false
+returns c = put_all c.requires.spans.with_ends c.loop-n.invariant (omega arith)

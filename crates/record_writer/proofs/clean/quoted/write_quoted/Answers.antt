@@ -12,7 +12,7 @@ returns-then-write c = rw c.if-write.true c.write.ensures
 pub measure-requires : goal.measure-requires
 measure-requires c = record { spans = c.requires.spans; at_bound = c.requires.room.measured c.if-write.false }
 
-pub returns : goal.returns
-returns c =
+pub returns-else-write : goal.returns-else-write
+returns-else-write c =
     put_measured c.if-write.false c.measure.ensures
     refl
