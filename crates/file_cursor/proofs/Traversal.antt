@@ -1,7 +1,7 @@
 -- Reading a file by its cursor: the invariant between two records, and how each result preserves it or ends reading.
 use Prim.Native.Nat.{ℕ, ◌+◌, ◌-◌, ◌≤◌, ◌<◌}
 use native.Mathlib.Omega.{arith}
-use mathlib.Core.Path.{◌≡◌, refl, sym, subst, ◌∙◌}
+use mathlib.Core.Path.{◌≡◌, refl, sym, ap, subst, ◌∙◌}
 use mathlib.Core.Bool.{true}
 use mathlib.Core.List.{List, [], ◌∷◌, ◌++◌}
 use lib.ListN.{length, drop, length-append}
@@ -111,6 +111,10 @@ module _ {d : Dialect} {target : Option Dialect} {file : Bytes} {c : Cursor} (y 
 
 other : {A : Type 0} → ◌≡◌ {A = ℕ} 0 1 → A
 other z = absurd (omega arith)
+
+-- a result by its value
+pub at_value : {o : Result (Option Cursor) Report} {w x : Option Cursor} → o ≡ Ok w → w ≡ x → o ≡ Ok x
+at_value q e = q ∙ ap (λ (y : Option Cursor). Ok y) e
 
 -- reading ends after these records
 pub record AtEnd (p : Progress) (rs : List Rec) : Type 0 where
