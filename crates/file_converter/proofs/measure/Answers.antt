@@ -1,5 +1,5 @@
 use mathlib.Core.Path.{refl}
-use Rattle.file_cursor.proofs.Traversal.{by_fields, sets_out, walks_on, walk_bounds, walk_less, came, full_long, full_kept}
+use Rattle.file_cursor.proofs.Traversal.{at_value, by_fields, sets_out, walks_on, walk_bounds, walk_less, came, full_long, full_kept}
 use Rattle.file_cursor.proofs.FastNext.{data_came}
 use Rattle.file_converter.proofs.Passes.{measured_all, measured_refused}
 use Rattle.file_converter.proofs.measure.Goals as goal
@@ -22,16 +22,16 @@ next_data_record-requires c =
     let b = walk_bounds inv.0 in
     record { from_in_bounds = b.0; done_le_from = b.1; long = full_long inv.1 }
 
-pub loop-v-smaller-in-Record : goal.loop-v-smaller-in-Record
-loop-v-smaller-in-Record c =
+pub loop-v-smaller-in-Some : goal.loop-v-smaller-in-Some
+loop-v-smaller-in-Some c =
     let inv = c.loop-v.invariant in
-    let r = data_came (c.next_data_record.ensures.fast_next_sound _ (by_fields inv.0.after)) c.in-Record.is in
+    let r = data_came (c.next_data_record.ensures.fast_next_sound _ (by_fields inv.0.after)) c.in-Some.is in
     walk_less inv.0 r.next
 
-pub loop-v-preserved-in-Record : goal.loop-v-preserved-in-Record
-loop-v-preserved-in-Record c =
+pub loop-v-preserved-in-Some : goal.loop-v-preserved-in-Some
+loop-v-preserved-in-Some c =
     let inv = c.loop-v.invariant in
-    let r = data_came (c.next_data_record.ensures.fast_next_sound _ (by_fields inv.0.after)) c.in-Record.is in
+    let r = data_came (c.next_data_record.ensures.fast_next_sound _ (by_fields inv.0.after)) c.in-Some.is in
     (walks_on inv.0 r.next, full_kept inv.1 c.next_data_record.ensures.same_lengths)
 
 pub slice_bounds-next_record-end : goal.slice_bounds-next_record-end
@@ -39,13 +39,13 @@ slice_bounds-next_record-end c =
     let inv = c.loop-v.invariant in
     (full_kept inv.1 c.next_data_record.ensures.same_lengths).at_starts
 
-pub slice_bounds-next_record-end-in-Fallback : goal.slice_bounds-next_record-end-in-Fallback
-slice_bounds-next_record-end-in-Fallback c =
+pub slice_bounds-next_record-end-in-None : goal.slice_bounds-next_record-end-in-None
+slice_bounds-next_record-end-in-None c =
     let inv = c.loop-v.invariant in
     (full_kept inv.1 c.next_data_record.ensures.same_lengths).at_ends
 
-pub slice_bounds-next_record-end-in-Fallback-2 : goal.slice_bounds-next_record-end-in-Fallback-2
-slice_bounds-next_record-end-in-Fallback-2 c =
+pub slice_bounds-next_record-end-in-None-2 : goal.slice_bounds-next_record-end-in-None-2
+slice_bounds-next_record-end-in-None-2 c =
     let inv = c.loop-v.invariant in
     (full_kept inv.1 c.next_data_record.ensures.same_lengths).at_kinds
 
@@ -58,21 +58,21 @@ next_record-requires c =
 pub loop-v-smaller : goal.loop-v-smaller
 loop-v-smaller c =
     let inv = c.loop-v.invariant in
-    let n = came (c.next_record.ensures.next_record_sound _ inv.0.after) c.in-Record-next_record.is in
+    let n = came (c.next_record.ensures.next_record_sound _ inv.0.after) (at_value c.in-Ok-Some.is c.in-Ok-Some.field-0-is) in
     walk_less inv.0 n
 
 pub loop-v-preserved : goal.loop-v-preserved
 loop-v-preserved c =
     let inv = c.loop-v.invariant in
-    let n = came (c.next_record.ensures.next_record_sound _ inv.0.after) c.in-Record-next_record.is in
+    let n = came (c.next_record.ensures.next_record_sound _ inv.0.after) (at_value c.in-Ok-Some.is c.in-Ok-Some.field-0-is) in
     (walks_on inv.0 n, full_kept (full_kept inv.1 c.next_data_record.ensures.same_lengths) c.next_record.ensures.same_lengths)
 
-pub returns-in-End : goal.returns-in-End
-returns-in-End c =
+pub returns-in-Ok-None : goal.returns-in-Ok-None
+returns-in-Ok-None c =
     let inv = c.loop-v.invariant in
-    measured_all inv.0 (c.next_record.ensures.next_record_sound _ inv.0.after) c.in-End.is
+    measured_all inv.0 (c.next_record.ensures.next_record_sound _ inv.0.after) (at_value c.in-Ok-None.is c.in-Ok-None.field-0-is)
 
-pub returns-in-Refused : goal.returns-in-Refused
-returns-in-Refused c =
+pub returns-in-Err : goal.returns-in-Err
+returns-in-Err c =
     let inv = c.loop-v.invariant in
-    measured_refused inv.0 (c.next_record.ensures.next_record_sound _ inv.0.after) c.in-Refused.is
+    measured_refused inv.0 (c.next_record.ensures.next_record_sound _ inv.0.after) c.in-Err.is
