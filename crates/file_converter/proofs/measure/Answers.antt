@@ -1,4 +1,5 @@
 use mathlib.Core.Path.{refl}
+use Rattle.std.proofs.lemmas.Result.{err_from_is_err_and}
 use Rattle.file_cursor.proofs.Traversal.{at_value, by_fields, sets_out, walks_on, walk_bounds, walk_less, came, full_long, full_kept}
 use Rattle.file_cursor.proofs.FastNext.{data_came}
 use Rattle.file_converter.proofs.Passes.{measured_all, measured_refused}
@@ -58,21 +59,22 @@ next_record-requires c =
 pub loop-v-smaller : goal.loop-v-smaller
 loop-v-smaller c =
     let inv = c.loop-v.invariant in
-    let n = came (c.next_record.ensures.next_record_sound _ inv.0.after) (at_value c.in-Ok-Some.is c.in-Ok-Some.field-0-is) in
+    let n = came (c.next_record.ensures.next_record_sound _ inv.0.after) (at_value c.in_ok-v-in-None.was c.in-Some-2.is) in
     walk_less inv.0 n
 
 pub loop-v-preserved : goal.loop-v-preserved
 loop-v-preserved c =
     let inv = c.loop-v.invariant in
-    let n = came (c.next_record.ensures.next_record_sound _ inv.0.after) (at_value c.in-Ok-Some.is c.in-Ok-Some.field-0-is) in
+    let n = came (c.next_record.ensures.next_record_sound _ inv.0.after) (at_value c.in_ok-v-in-None.was c.in-Some-2.is) in
     (walks_on inv.0 n, full_kept (full_kept inv.1 c.next_data_record.ensures.same_lengths) c.next_record.ensures.same_lengths)
 
-pub returns-in-Ok-None : goal.returns-in-Ok-None
-returns-in-Ok-None c =
+pub returns-in-None-2 : goal.returns-in-None-2
+returns-in-None-2 c =
     let inv = c.loop-v.invariant in
-    measured_all inv.0 (c.next_record.ensures.next_record_sound _ inv.0.after) (at_value c.in-Ok-None.is c.in-Ok-None.field-0-is)
+    measured_all inv.0 (c.next_record.ensures.next_record_sound _ inv.0.after) (at_value c.in_ok-v-in-None.was c.in-None-2.is)
 
-pub returns-in-Err : goal.returns-in-Err
-returns-in-Err c =
+pub returns-in_err-v-in-None : goal.returns-in_err-v-in-None
+returns-in_err-v-in-None c =
     let inv = c.loop-v.invariant in
-    measured_refused inv.0 (c.next_record.ensures.next_record_sound _ inv.0.after) c.in-Err.is
+    let p = err_from_is_err_and c.from_residual.result c.from_residual.ensures.1 in
+    rw (p.1, p.2) (measured_refused inv.0 (c.next_record.ensures.next_record_sound _ inv.0.after) c.in_err-v-in-None.was)
