@@ -2,7 +2,7 @@
 use Prim.Native.Nat.{ℕ, ◌≤◌, ◌<◌}
 use native.Mathlib.Omega.{arith}
 use mathlib.Core.Path.{◌≡◌, refl, sym, ap, ◌∙◌}
-use Rattle.std.specs.Prelude.{None, Some}
+use Rattle.std.specs.Prelude.{None, Some, Result, Ok, Err}
 use lib.ListN.{length, drop, length-append, length-drop}
 use borrow.Author.Tests.{lt-ltb, le-ltb}
 use Rattle.model.specs.declared.Dialect.{Dialect}
@@ -14,8 +14,6 @@ use Rattle.model.specs.rules.Records.{fault_report}
 use Rattle.model.specs.rules.Api.{Written, unwritten, converter, converter_leaves}
 use Rattle.codes.specs.declared.TextAnswer.{TextAnswer}
 use Rattle.codes.specs.Named.{text_answer}
-use Rattle.file_converter.specs.declared.Measurement.{Measurement}
-use Rattle.file_converter.specs.declared.Measurement.TheVariants.{Accepted, Refused}
 use Rattle.file_converter.specs.Converts as converts
 use Rattle.file_converter.specs.Converts.{answer_in, text_in, MeasureSound, Accepts}
 use Rattle.file_converter.proofs.Passes.{answer_text}
@@ -30,51 +28,51 @@ pub record Leaves (d t : Dialect) (file old : Bytes) (r : TextAnswer) (out : Byt
 
 -- ---- a file of one dialect into another
 
-module _ (d t : Dialect) (file old : Bytes) {m : Measurement} (y : MeasureSound d t file m) where
-  refused_by : (x : Report) → m ≡ Refused x → answer_in d t file (length old) ≡ unwritten x
+module _ (d t : Dialect) (file old : Bytes) {m : Result ℕ Report} (y : MeasureSound d t file m) where
+  refused_by : (x : Report) → m ≡ Err x → answer_in d t file (length old) ≡ unwritten x
   refused_by x q = go m y q
     where
-      go : (s : Measurement) → MeasureSound d t file s → s ≡ Refused x → answer_in d t file (length old) ≡ unwritten x
-      go (Accepted n) (converts.accepted r p l) q = other cc
-      go (Refused z) (converts.refused e r p) q = let w : fault_report e r ≡ x = cc in rw p (ap unwritten w)
+      go : (s : Result ℕ Report) → MeasureSound d t file s → s ≡ Err x → answer_in d t file (length old) ≡ unwritten x
+      go (Ok n) (converts.accepted r p l) q = other cc
+      go (Err z) (converts.refused e r p) q = let w : fault_report e r ≡ x = cc in rw p (ap unwritten w)
 
-  pub conversion_refused : (x : Report) → m ≡ Refused x → (r : TextAnswer) → r ≡ text_answer (unwritten x) → Leaves d t file old r old
+  pub conversion_refused : (x : Report) → m ≡ Err x → (r : TextAnswer) → r ≡ text_answer (unwritten x) → Leaves d t file old r old
   conversion_refused x q r e =
       let a : answer_in d t file (length old) ≡ unwritten x = refused_by x q in
       record { answer = e ∙ ap text_answer (sym a); left = rw a refl }
 
   pub conversion_crowded :
-      (n : ℕ) → m ≡ Accepted n → length old < n → (x : Report) → x ≡ refusal 10 → (r : TextAnswer) → r ≡ text_answer (unwritten x) →
+      (n : ℕ) → m ≡ Ok n → length old < n → (x : Report) → x ≡ refusal 10 → (r : TextAnswer) → r ≡ text_answer (unwritten x) →
       Leaves d t file old r old
   unfolding choose◌then◌else◌
   conversion_crowded n q h x ex r e =
       let a : answer_in d t file (length old) ≡ unwritten (refusal 10) = go m y q in
       record { answer = e ∙ ap (λ (x : Report). text_answer (unwritten x)) ex ∙ ap text_answer (sym a); left = rw a refl }
     where
-      go : (s : Measurement) → MeasureSound d t file s → s ≡ Accepted n → answer_in d t file (length old) ≡ unwritten (refusal 10)
-      go (Accepted k) (converts.accepted r p l) q =
+      go : (s : Result ℕ Report) → MeasureSound d t file s → s ≡ Ok n → answer_in d t file (length old) ≡ unwritten (refusal 10)
+      go (Ok k) (converts.accepted r p l) q =
           let w : k ≡ n = cc in
           rw (p, lt-ltb (length old) (length (text_in t r)) (omega (arith, l)))
-      go (Refused z) (converts.refused e r p) q = other cc
+      go (Err z) (converts.refused e r p) q = other cc
 
-  pub conversion_accepts : (n : ℕ) → m ≡ Accepted n → n ≤ length old → Accepts d t file (length old)
+  pub conversion_accepts : (n : ℕ) → m ≡ Ok n → n ≤ length old → Accepts d t file (length old)
   conversion_accepts n q h = go m y q
     where
-      go : (s : Measurement) → MeasureSound d t file s → s ≡ Accepted n → Accepts d t file (length old)
-      go (Accepted k) (converts.accepted r p l) q = let w : k ≡ n = cc in record { r = r; reads = p; fits = omega (arith, l) }
-      go (Refused z) (converts.refused e r p) q = other cc
+      go : (s : Result ℕ Report) → MeasureSound d t file s → s ≡ Ok n → Accepts d t file (length old)
+      go (Ok k) (converts.accepted r p l) q = let w : k ≡ n = cc in record { r = r; reads = p; fits = omega (arith, l) }
+      go (Err z) (converts.refused e r p) q = other cc
 
   pub conversion_roomy :
-      (n : ℕ) → m ≡ Accepted n → n ≤ length old → (x : Report) → x ≡ refusal 0 →
+      (n : ℕ) → m ≡ Ok n → n ≤ length old → (x : Report) → x ≡ refusal 0 →
       record { report = x; length = n } ≡ text_answer (answer_in d t file (length old))
   unfolding choose◌then◌else◌
   conversion_roomy n q h x e = go m y q
     where
-      go : (s : Measurement) → MeasureSound d t file s → s ≡ Accepted n → record { report = x; length = n } ≡ text_answer (answer_in d t file (length old))
-      go (Accepted k) (converts.accepted r p l) q =
+      go : (s : Result ℕ Report) → MeasureSound d t file s → s ≡ Ok n → record { report = x; length = n } ≡ text_answer (answer_in d t file (length old))
+      go (Ok k) (converts.accepted r p l) q =
           let w : k ≡ n = cc in
           rw (p, le-ltb (length old) (length (text_in t r)) (omega (arith, l)), e, ← w, ← l) refl
-      go (Refused z) (converts.refused e r p) q = other cc
+      go (Err z) (converts.refused e r p) q = other cc
 
 -- the room stays as long as it was
 pub long_filled :

@@ -3,7 +3,7 @@ use Prim.Native.Nat.{ℕ, ◌+◌, ◌≤◌}
 use native.Mathlib.Omega.{arith}
 use mathlib.Core.Path.{◌≡◌, refl, sym, ap, subst, ◌∙◌}
 use mathlib.Core.Bool.{Bool, true, false}
-use Rattle.std.specs.Prelude.{None}
+use Rattle.std.specs.Prelude.{Option, None, Some, Result, Ok, Err}
 use mathlib.Core.List.{List, [], ◌∷◌, ◌++◌, append-nil}
 use lib.ListN.{length, take, length-append}
 use lib.Dec.{eqb}
@@ -21,14 +21,10 @@ use Rattle.buffer.specs.Writes.{written, Room, WrittenAt}
 use Rattle.buffer.proofs.WriteProgress.{Emitting, emitting, room_rest, put_next, put_whole, same_long, written_first}
 use Rattle.cell_decoder.specs.declared.source.Source.TheVariants.{File}
 use Rattle.cell_decoder.specs.Sources.{cells_in}
-use Rattle.file_cursor.specs.declared.Aim.TheVariants.{Reading, Into}
 use Rattle.file_cursor.specs.declared.Cursor.{Cursor}
-use Rattle.file_cursor.specs.declared.NextRecord.{NextRecord}
-use Rattle.file_cursor.specs.declared.NextRecord.TheVariants as outcomes
 use Rattle.file_cursor.specs.NextRecord.{at_start, Next, NextRecordSound}
 use Rattle.file_cursor.proofs.RecordChecks.{empty_none}
 use Rattle.file_cursor.proofs.Traversal.{Walking, sets_out, sets_rs, walks_on, walks_rs, grows, at_end, at_fault}
-use Rattle.file_converter.specs.declared.Measurement.TheVariants.{Accepted, Refused}
 use Rattle.file_converter.specs.Converts as converts
 use Rattle.file_converter.specs.Converts.{answer_in, text_in, MeasureSound, Accepts}
 
@@ -40,17 +36,17 @@ lie_in {n} h e = subst (λ (x : ℕ). n ≤ x) e h
 
 -- ---- the first pass
 
-module _ {d t : Dialect} {file : Bytes} {c : Cursor} (y : Walking d (Into t) file c) {s e k : List ℕ} {o : NextRecord}
-    (v : NextRecordSound d (Into t) file y.rs c.state c.offset s e k o) where
-  pub measured_all : o ≡ outcomes.End → MeasureSound d t file (Accepted c.written)
+module _ {d t : Dialect} {file : Bytes} {c : Cursor} (y : Walking d (Some t) file c) {s e k : List ℕ} {o : Result (Option Cursor) Report}
+    (v : NextRecordSound d (Some t) file y.rs c.state c.offset s e k o) where
+  pub measured_all : o ≡ Ok None → MeasureSound d t file (Ok c.written)
   measured_all q =
       let a = at_end v q in
       converts.accepted a.r (y.rest ∙ a.rest) (ap (λ (l : List Rec). length (table_text (into t) (rows l))) a.done ∙ y.after.text)
 
-  pub measured_refused : {x : Report} → o ≡ outcomes.Refused x → MeasureSound d t file (Refused x)
+  pub measured_refused : {x : Report} → o ≡ Err x → MeasureSound d t file (Err x)
   measured_refused q =
       let a = at_fault v q in
-      subst (λ (x : Report). MeasureSound d t file (Refused x)) (sym a.report) (converts.refused a.fault a.r (y.rest ∙ a.rest))
+      subst (λ (x : Report). MeasureSound d t file (Err x)) (sym a.report) (converts.refused a.fault a.r (y.rest ∙ a.rest))
 
 -- ---- the second pass
 
@@ -65,7 +61,7 @@ written_text p = p.text
 
 -- the records so far are written
 pub record Filling (d t : Dialect) (file old out : Bytes) (c : Cursor) (at : ℕ) : Type 0 where
-  pub walk : Walking d Reading file c
+  pub walk : Walking d None file c
   pub puts : WrittenAt true old 0 (table_text (into t) (rows walk.rs)) out at
   pub long : length out ≡ length old
 
@@ -73,14 +69,14 @@ pub fills : (d t : Dialect) (file old : Bytes) (c : Cursor) → c ≡ at_start �
 unfolding table_text rows
 fills d t file old c q =
     let p : WrittenAt true old 0 [] old 0 = put_whole (emitting true (record { measured = λ z. omega arith; inside = λ z. omega arith })) in
-    record { walk = sets_out d Reading file c q; puts = rw (sets_rs d Reading file c q) p; long = refl }
+    record { walk = sets_out d None file c q; puts = rw (sets_rs d None file c q) p; long = refl }
 
 module _ {d t : Dialect} {file old out : Bytes} {c : Cursor} {at : ℕ} (y : Filling d t file old out c at) (a : Accepts d t file (length old)) where
   -- without its target the file is read to the same records
   alone : read_file d None file ≡ going a.r
   alone = file_alone d (into t) file a.r a.reads
 
-  module _ {s e k : List ℕ} {v : Cursor} (n : Next d Reading file y.walk.rs c.state c.offset s e k v) where
+  module _ {s e k : List ℕ} {v : Cursor} (n : Next d None file y.walk.rs c.state c.offset s e k v) where
     abbrev Cells-of : List Value
     Cells-of = cells_in (File d) file (take v.columns s) (take v.columns e) (take v.columns k)
 
@@ -150,8 +146,8 @@ module _ {d t : Dialect} {file old out : Bytes} {c : Cursor} {at : ℕ} (y : Fil
       pub fills_data : {new : Bytes} {o : ℕ} → WrittenAt true out at (record_text (into t) false Cells-of ++ ending t) new o → Filling d t file old new v o
       fills_data {new} {o} p = fills_on (subst (λ (b : Bool). WrittenAt true out at (record_text (into t) b Cells-of ++ ending t) new o) (sym no_header) p)
 
-  module _ {s e k : List ℕ} {o : NextRecord} (v : NextRecordSound d Reading file y.walk.rs c.state c.offset s e k o) where
-    pub filled_all : o ≡ outcomes.End → out ≡ over (answer_in d t file (length old)).text old
+  module _ {s e k : List ℕ} {o : Result (Option Cursor) Report} (v : NextRecordSound d None file y.walk.rs c.state c.offset s e k o) where
+    pub filled_all : o ≡ Ok None → out ≡ over (answer_in d t file (length old)).text old
     filled_all q =
         let b = at_end v q in
         let same : going b.r ≡ going a.r = sym (y.walk.rest ∙ b.rest) ∙ alone in
@@ -160,7 +156,7 @@ module _ {d t : Dialect} {file old out : Bytes} {c : Cursor} {at : ℕ} (y : Fil
         written_text y.puts ∙ ap (λ (l : List Rec). written old 0 (table_text (into t) (rows l))) rs ∙ written_first old (text_in t a.r)
         ∙ ap (λ (w : Bytes). over w old) (sym (answer_text a))
 
-    pub never_refused : {A : Type 0} {x : Report} → o ≡ outcomes.Refused x → A
+    pub never_refused : {A : Type 0} {x : Report} → o ≡ Err x → A
     never_refused q =
         let b = at_fault v q in
         let same : stopped b.fault b.r ≡ going a.r = sym (y.walk.rest ∙ b.rest) ∙ alone in

@@ -61,15 +61,12 @@ fn measure(d: Dialect, t: Dialect, file: &[u8]) -> Result<usize, Report>
                 &mut starts,
                 &mut ends,
                 &mut kinds,
-            ) {
-                Ok(Some(v)) => {
+            )? {
+                Some(v) => {
                     cursor = v;
                 }
-                Ok(None) => {
+                None => {
                     return Ok(cursor.written);
-                }
-                Err(e) => {
-                    return Err(e);
                 }
             },
         }
@@ -171,6 +168,7 @@ fn write_records(d: Dialect, t: Dialect, file: &[u8], room: &mut [u8])
                     );
                     cursor = v;
                 }
+                // Two arms: for an or-pattern the proof has no equation of the result.
                 Ok(None) => {
                     return;
                 }

@@ -30,8 +30,8 @@ use Rattle.record_scanner.proofs.StoreLaws.{length_stored_from}
 use Rattle.model.specs.rules.Api.{starts_of, ends_of, kinds_of}
 use Rattle.record_fast.specs.FastScan.{StoredCells, FastScanSound, is_found, is_fallback}
 use Rattle.record_fast.specs.FastScan.{Clean as CleanCells}
-use Rattle.record_fast.specs.declared.FastScan.{FastScan}
-use Rattle.record_fast.specs.declared.FastScan.TheVariants.{Record, Fallback}
+use Rattle.record_fast.specs.declared.FastRecord.{FastRecord}
+use Rattle.std.specs.Prelude.{Option, None, Some}
 use Rattle.file_cursor.specs.Types.{FileScan, Completed}
 use Rattle.file_cursor.proofs.WholeFile.{next_of, next_scans, clean_between, Out, at_record}
 
@@ -165,19 +165,19 @@ module _ (d : Dialect) (file : Bytes) (first : FileState) (from room base : ℕ)
       let g : length (found_of Scanned).cells ≤ length Whole.cells = found_long in
       z ∙ ap (λ (xs : List ℕ). stored_from room base (map φ Whole.cells) xs) y ∙ stored_again room base (map φ Whole.cells) (map ψ cs) old (omega arith)
 
-  module _ {s₀ e₀ k₀ s e k : List ℕ} {q : FastScan} (told : FastScanSound d MAXFILE file from first room base s₀ e₀ k₀ s e k q) where
+  module _ {s₀ e₀ k₀ s e k : List ℕ} {q : Option FastRecord} (told : FastScanSound d MAXFILE file from first room base s₀ e₀ k₀ s e k q) where
     -- a record that was found is the next one
     pub told_record :
-        {start cells next : ℕ} {g : FileState} {clean : Bool} → q ≡ Record start cells g next clean → from ≤ length file →
-        Out d file first from room base s₀ e₀ k₀ (Completed start cells g next) s e k
-    told_record {start} {cells} {next} {g} {clean} z l =
-        go (subst (λ (x : FastScan). FastScanSound d MAXFILE file from first room base s₀ e₀ k₀ s e k x) z told)
+        {x : FastRecord} → q ≡ Some x → from ≤ length file →
+        Out d file first from room base s₀ e₀ k₀ (Completed x.start x.cells x.state x.next) s e k
+    told_record {x} z l =
+        go (subst (λ (y : Option FastRecord). FastScanSound d MAXFILE file from first room base s₀ e₀ k₀ s e k y) z told)
       where
         go :
-            FastScanSound d MAXFILE file from first room base s₀ e₀ k₀ s e k (Record start cells g next clean) →
-            Out d file first from room base s₀ e₀ k₀ (Completed start cells g next) s e k
+            FastScanSound d MAXFILE file from first room base s₀ e₀ k₀ s e k (Some x) →
+            Out d file first from room base s₀ e₀ k₀ (Completed x.start x.cells x.state x.next) s e k
         go (is_found cs f b y c) =
-            at_record d file first from room base s₀ e₀ k₀ l (reached.Completed start cells g next) s e k (
+            at_record d file first from room base s₀ e₀ k₀ l (reached.Completed x.start x.cells x.state x.next) s e k (
               ap (λ (x : Found). x.answer) (sym f),
               (
                 y.at_starts ∙ ap (λ (x : Found). stored_from room base (raw_starts x.cells) s₀) (sym f),
@@ -187,30 +187,30 @@ module _ (d : Dialect) (file : Bytes) (first : FileState) (from room base : ℕ)
                 ),
               ),
             )
-            start cells g next refl
+            x.start x.cells x.state x.next refl
 
     -- its cells are verbatim texts where `clean` says so
     pub told_clean :
-        {start cells next : ℕ} {g : FileState} {clean : Bool} → q ≡ Record start cells g next clean → clean ≡ true →
-        CleanCells d file room base cells s e
-    told_clean {start} {cells} {next} {g} {clean} z = go (subst (λ (x : FastScan). FastScanSound d MAXFILE file from first room base s₀ e₀ k₀ s e k x) z told)
+        {x : FastRecord} → q ≡ Some x → x.clean ≡ true →
+        CleanCells d file room base x.cells s e
+    told_clean {x} z = go (subst (λ (y : Option FastRecord). FastScanSound d MAXFILE file from first room base s₀ e₀ k₀ s e k y) z told)
       where
         go :
-            FastScanSound d MAXFILE file from first room base s₀ e₀ k₀ s e k (Record start cells g next clean) → clean ≡ true →
-            CleanCells d file room base cells s e
+            FastScanSound d MAXFILE file from first room base s₀ e₀ k₀ s e k (Some x) → x.clean ≡ true →
+            CleanCells d file room base x.cells s e
         go (is_found cs f b y c) = c
 
     -- after a fallback the scanner finds the next record, and the lists are as if it alone had run
     pub told_nothing :
-        q ≡ Fallback → {v : FileScan} {s' e' k' : List ℕ} →
+        q ≡ None → {v : FileScan} {s' e' k' : List ℕ} →
         (v ≡ Whole.event)
         × ((s' ≡ stored_from room base (starts_of Whole.cells) s)
         × ((e' ≡ stored_from room base (ends_of Whole.cells) e)
         × ((k' ≡ stored_from room base (kinds_of Whole.cells) k) × EventInBounds (length file) from base v))) →
         Out d file first from room base s₀ e₀ k₀ v s' e' k'
-    told_nothing z {v} {s'} {e'} {k'} o = go (subst (λ (x : FastScan). FastScanSound d MAXFILE file from first room base s₀ e₀ k₀ s e k x) z told)
+    told_nothing z {v} {s'} {e'} {k'} o = go (subst (λ (y : Option FastRecord). FastScanSound d MAXFILE file from first room base s₀ e₀ k₀ s e k y) z told)
       where
-        go : FastScanSound d MAXFILE file from first room base s₀ e₀ k₀ s e k Fallback → Out d file first from room base s₀ e₀ k₀ v s' e' k'
+        go : FastScanSound d MAXFILE file from first room base s₀ e₀ k₀ s e k None → Out d file first from room base s₀ e₀ k₀ v s' e' k'
         go (is_fallback cs more f y) =
             record {
               event = o.0;
@@ -232,7 +232,7 @@ module _ (d : Dialect) (file : Bytes) (first : FileState) (from room base : ℕ)
     told_long = go told
       where
         go :
-            {x : FastScan} → FastScanSound d MAXFILE file from first room base s₀ e₀ k₀ s e k x →
+            {x : Option FastRecord} → FastScanSound d MAXFILE file from first room base s₀ e₀ k₀ s e k x →
             (length s ≡ length s₀) × (length e ≡ length e₀) × (length k ≡ length k₀)
         go (is_found cs f b y c) = stored_long y
         go (is_fallback cs more f y) = stored_long y

@@ -3,7 +3,7 @@ use Prim.Native.Nat.{ℕ, suc, ◌+◌, ◌≤◌, ◌<◌}
 use native.Mathlib.Omega.{arith}
 use mathlib.Core.Path.{◌≡◌, refl, sym, ap, subst, ◌∙◌}
 use mathlib.Core.Bool.{true}
-use Rattle.std.specs.Prelude.{Option, None}
+use Rattle.std.specs.Prelude.{Option, None, Some, Result, Ok, Err}
 use mathlib.Core.List.{List, [], ◌∷◌, ◌++◌}
 use lib.ListN.{length, take, drop, length-append, drop_of_length-le}
 use lib.Dec.{ltb}
@@ -15,7 +15,6 @@ use Rattle.model.specs.declared.FileState.TheVariants.{Top, Begin, Ended, Bom1, 
 use Rattle.model.specs.declared.Fault.{Fault}
 use Rattle.model.specs.declared.Fault.TheVariants.{NoRecord}
 use Rattle.model.specs.declared.Report.{Report}
-use Rattle.std.specs.Prelude.{Ok, Err}
 use Rattle.model.specs.rules.Base.{Bytes, is_empty}
 use Rattle.model.specs.rules.File.{file_end}
 use Rattle.model.specs.laws.Laws.{All}
@@ -36,9 +35,7 @@ use Rattle.file_cursor.proofs.RecordByRecord.{stays, reads_on}
 use Rattle.file_cursor.proofs.Events.{on_record, on_last, on_fault, on_finish}
 use Rattle.file_cursor.proofs.Complete.{report_start, report_byte, rec_of, complete_sound, complete_faulty}
 use Rattle.file_cursor.proofs.Spans.{cells_lie, EndsOuter, record_outer}
-use Rattle.file_cursor.specs.declared.Aim.{Aim}
-use Rattle.file_cursor.specs.declared.NextRecord.{NextRecord}
-use Rattle.file_cursor.specs.declared.NextRecord.TheVariants.{Record, Refused}
+use Rattle.file_cursor.specs.declared.Cursor.{Cursor}
 use Rattle.file_cursor.specs.NextRecord.{target_of, text_of, text_next, cursor_of, RecordChecked, sound, faulty, FileEnded, no_record, at_end}
 use Rattle.file_cursor.specs.NextRecord.{NextRecordSound, read, finished, refused}
 use Rattle.record_fast.specs.CellLists.{Long, SameLengths, Shows}
@@ -138,17 +135,17 @@ module _ {d : Dialect} {file : Bytes} {f : FileState} {i : ℕ} {s₀ e₀ k₀ 
   pub last_counts : {start n : ℕ} → v ≡ LastRecord start n → length Here.cells ≡ n
   last_counts {start} {n} w = (on_last d None file [] Here _ (follows None []) start n (sym m.event ∙ w)).counts
 
-  module _ (aim : Aim) (rs : List Rec) where
+  module _ (target : Option Dialect) (rs : List Rec) where
     abbrev Rest : Progress
-    Rest = rest_of d (target_of aim) file rs f i
+    Rest = rest_of d (target_of target) file rs f i
 
     -- a record that is sound
     next_record_lem :
         (r : Read) (g : FileState) (o m n w : ℕ) → r.done ≡ rs →
-        Rest ≡ rest_of d (target_of aim) file (rs ++ (rec_of r Here.cells ∷ [])) g o →
-        record_fault d (target_of aim) rs Here.cells ≡ Ok tt → length rs + 1 ≡ m → length Here.cells ≡ n → n ≤ MAXCOLUMNS →
-        length (text_of aim rs) + length (text_next aim (is_empty rs) Here.cells) ≡ w → w ≤ MAXFILE → i < o → o ≤ length file →
-        o ≤ MAXFILE → outer g ≡ true → NextRecordSound d aim file rs f i s e k (Record (cursor_of m n w o g))
+        Rest ≡ rest_of d (target_of target) file (rs ++ (rec_of r Here.cells ∷ [])) g o →
+        record_fault d (target_of target) rs Here.cells ≡ Ok tt → length rs + 1 ≡ m → length Here.cells ≡ n → n ≤ MAXCOLUMNS →
+        length (text_of target rs) + length (text_next target (is_empty rs) Here.cells) ≡ w → w ≤ MAXFILE → i < o → o ≤ length file →
+        o ≤ MAXFILE → outer g ≡ true → NextRecordSound d target file rs f i s e k (Ok (Some (cursor_of m n w o g)))
     next_record_lem r g o m n w done rest fault counted c few text short onward inside under between =
         let x : Rec = rec_of r Here.cells in
         read
@@ -159,8 +156,8 @@ module _ {d : Dialect} {file : Bytes} {f : FileState} {i : ℕ} {s₀ e₀ k₀ 
           after =
               record {
                 count = length-append rs (x ∷ []) ∙ counted;
-                headed = columns_snoc d (target_of aim) rs x n fault c;
-                text = text_snoc aim rs x ∙ text;
+                headed = columns_snoc d (target_of target) rs x n fault c;
+                text = text_snoc target rs x ∙ text;
               };
           few = few;
           stand = now_stand n c few;
@@ -174,81 +171,81 @@ module _ {d : Dialect} {file : Bytes} {f : FileState} {i : ℕ} {s₀ e₀ k₀ 
 
     -- the same place of reading, by the records that were read
     sound_rest :
-        (r : Read) (g : FileState) (o : ℕ) → r.done ≡ rs → record_fault d (target_of aim) rs Here.cells ≡ Ok tt →
-        complete d (target_of aim) r Here.cells g o ≡ going (between_records (rs ++ (rec_of r Here.cells ∷ [])) g o)
+        (r : Read) (g : FileState) (o : ℕ) → r.done ≡ rs → record_fault d (target_of target) rs Here.cells ≡ Ok tt →
+        complete d (target_of target) r Here.cells g o ≡ going (between_records (rs ++ (rec_of r Here.cells ∷ [])) g o)
     sound_rest r g o done fault =
-        complete_sound d (target_of aim) r Here.cells g o (ap (λ (l : List Rec). record_fault d (target_of aim) l Here.cells) done ∙ fault)
+        complete_sound d (target_of target) r Here.cells g o (ap (λ (l : List Rec). record_fault d (target_of target) l Here.cells) done ∙ fault)
         ∙ ap (λ (l : List Rec). going (between_records (l ++ (rec_of r Here.cells ∷ [])) g o)) done
 
     refused_record :
-        (r : Read) (start : ℕ) (x : Fault) → r.done ≡ rs → r.start ≡ start → record_fault d (target_of aim) rs Here.cells ≡ Err x →
-        Rest ≡ stopped x r → NextRecordSound d aim file rs f i s e k (Refused (report (number_of x) (suc (length rs)) (column_of x) start))
+        (r : Read) (start : ℕ) (x : Fault) → r.done ≡ rs → r.start ≡ start → record_fault d (target_of target) rs Here.cells ≡ Err x →
+        Rest ≡ stopped x r → NextRecordSound d target file rs f i s e k (Err (report (number_of x) (suc (length rs)) (column_of x) start))
     refused_record r start x done starts fault rest =
         let q : report (number_of x) (suc (length rs)) (column_of x) r.start ≡ fault_report x r
-        = report_start d (target_of aim) r Here.cells x (length rs)
-        (ap (λ (l : List Rec). record_fault d (target_of aim) l Here.cells) done ∙ fault) (ap length done) in
+        = report_start d (target_of target) r Here.cells x (length rs)
+        (ap (λ (l : List Rec). record_fault d (target_of target) l Here.cells) done ∙ fault) (ap length done) in
         let p : report (number_of x) (suc (length rs)) (column_of x) start ≡ fault_report x r
         = ap (λ (n : ℕ). report (number_of x) (suc (length rs)) (column_of x) n) (sym starts) ∙ q in
-        subst (λ (t : Report). NextRecordSound d aim file rs f i s e k (Refused t)) (sym p) (refused x r rest)
+        subst (λ (t : Report). NextRecordSound d target file rs f i s e k (Err t)) (sym p) (refused x r rest)
 
     faulty_rest :
-        (r : Read) (g : FileState) (o : ℕ) (x : Fault) → r.done ≡ rs → record_fault d (target_of aim) rs Here.cells ≡ Err x →
-        complete d (target_of aim) r Here.cells g o ≡ stopped x r
+        (r : Read) (g : FileState) (o : ℕ) (x : Fault) → r.done ≡ rs → record_fault d (target_of target) rs Here.cells ≡ Err x →
+        complete d (target_of target) r Here.cells g o ≡ stopped x r
     faulty_rest r g o x done fault =
-        complete_faulty d (target_of aim) r Here.cells g o x
-        (ap (λ (l : List Rec). record_fault d (target_of aim) l Here.cells) done ∙ fault)
+        complete_faulty d (target_of target) r Here.cells g o x
+        (ap (λ (l : List Rec). record_fault d (target_of target) l Here.cells) done ∙ fault)
 
     -- ---- each event
 
     pub record_visited :
-        {start n : ℕ} {g : FileState} {o : ℕ} {r : NextRecord} → v ≡ Completed start n g o →
-        RecordChecked d aim rs Here.cells start g o r → NextRecordSound d aim file rs f i s e k r
+        {start n : ℕ} {g : FileState} {o : ℕ} {r : Result (Option Cursor) Report} → v ≡ Completed start n g o →
+        RecordChecked d target rs Here.cells start g o r → NextRecordSound d target file rs f i s e k r
     record_visited {start} {n} {g} {o} w (sound {m = m'} {n = c} {w = t} fault counted l few text short) =
-        let at = on_record d (target_of aim) file rs Here _ (follows (target_of aim) rs) start n g o (sym m.event ∙ w) in
+        let at = on_record d (target_of target) file rs Here _ (follows (target_of target) rs) start n g o (sym m.event ∙ w) in
         let b : (i < o) × (o ≤ length file) × (o ≤ MAXFILE) × (0 + n ≤ o) = subst (EventInBounds (length file) i 0) w m.bounds in
         let u : outer g ≡ true = subst EndsOuter (sym m.event ∙ w) (record_outer d (drop i file) (between_records [] f i)) in
         next_record_lem at.r g o m' c t at.done
-        (at.rest ∙ ap (λ (p : Progress). read_end d (target_of aim) (read_from d (target_of aim) p (drop o file))) (sound_rest at.r g o at.done fault))
+        (at.rest ∙ ap (λ (p : Progress). read_end d (target_of target) (read_from d (target_of target) p (drop o file))) (sound_rest at.r g o at.done fault))
         fault counted l few text short b.0 b.1 b.2 u
     record_visited {start} {n} {g} {o} w (faulty x fault) =
-        let at = on_record d (target_of aim) file rs Here _ (follows (target_of aim) rs) start n g o (sym m.event ∙ w) in
+        let at = on_record d (target_of target) file rs Here _ (follows (target_of target) rs) start n g o (sym m.event ∙ w) in
         refused_record at.r start x at.done at.starts fault
         (at.rest
-        ∙ ap (λ (p : Progress). read_end d (target_of aim) (read_from d (target_of aim) p (drop o file)))
-        (faulty_rest at.r g o x at.done fault) ∙ sym (stays d (target_of aim) x at.r (drop o file)))
+        ∙ ap (λ (p : Progress). read_end d (target_of target) (read_from d (target_of target) p (drop o file)))
+        (faulty_rest at.r g o x at.done fault) ∙ sym (stays d (target_of target) x at.r (drop o file)))
 
     pub last_visited :
-        {start n : ℕ} {r : NextRecord} → v ≡ LastRecord start n → RecordChecked d aim rs Here.cells start Begin (length file) r →
-        NextRecordSound d aim file rs f i s e k r
+        {start n : ℕ} {r : Result (Option Cursor) Report} → v ≡ LastRecord start n → RecordChecked d target rs Here.cells start Begin (length file) r →
+        NextRecordSound d target file rs f i s e k r
     last_visited {start} {n} w (sound {m = m'} {n = c} {w = t} fault counted l few text short) =
-        let at = on_last d (target_of aim) file rs Here _ (follows (target_of aim) rs) start n (sym m.event ∙ w) in
+        let at = on_last d (target_of target) file rs Here _ (follows (target_of target) rs) start n (sym m.event ∙ w) in
         let b : (length file ≤ MAXFILE) × (0 + n ≤ length file + 1) = subst (EventInBounds (length file) i 0) w m.bounds in
         next_record_lem at.r Begin (length file) m' c t at.done
-        (at.rest ∙ sound_rest at.r Begin (length file) at.done fault ∙ sym (end_after d (target_of aim) file rs (rec_of at.r Here.cells)))
+        (at.rest ∙ sound_rest at.r Begin (length file) at.done fault ∙ sym (end_after d (target_of target) file rs (rec_of at.r Here.cells)))
         fault counted l few text short (last_inside d file f i start n m.between (sym m.event ∙ w)) (omega arith) b.0 refl
     last_visited {start} {n} w (faulty x fault) =
-        let at = on_last d (target_of aim) file rs Here _ (follows (target_of aim) rs) start n (sym m.event ∙ w) in
+        let at = on_last d (target_of target) file rs Here _ (follows (target_of target) rs) start n (sym m.event ∙ w) in
         refused_record at.r start x at.done at.starts fault (at.rest ∙ faulty_rest at.r Begin (length file) x at.done fault)
 
     pub fault_visited :
         {x : Fault} {o : ℕ} (done : ℕ) → v ≡ Failed x o → length rs ≡ done → (t : Report) →
-        t ≡ report (number_of x) (done + 1) (column_of x) o → NextRecordSound d aim file rs f i s e k (Refused t)
+        t ≡ report (number_of x) (done + 1) (column_of x) o → NextRecordSound d target file rs f i s e k (Err t)
     fault_visited {x} {o} done w l t te =
-        let at = on_fault d (target_of aim) file rs Here _ (follows (target_of aim) rs) x o (sym m.event ∙ w) in
+        let at = on_fault d (target_of target) file rs Here _ (follows (target_of target) rs) x o (sym m.event ∙ w) in
         let n : done + 1 ≡ suc (length rs) = omega arith in
         let q : t ≡ fault_report x at.r =
         te ∙ ap (λ (n : ℕ). report (number_of x) n (column_of x) o) n
         ∙ ap (λ (n : ℕ). report (number_of x) (suc (length rs)) (column_of x) n) (sym at.place)
         ∙ report_byte x at.r (length rs) at.byte (ap length at.done) in
-        subst (λ (t : Report). NextRecordSound d aim file rs f i s e k (Refused t)) (sym q) (refused x at.r at.rest)
+        subst (λ (t : Report). NextRecordSound d target file rs f i s e k (Err t)) (sym q) (refused x at.r at.rest)
 
-  pub end_visited : (aim : Aim) (rs : List Rec) {o : ℕ} {r : NextRecord} → v ≡ End o → FileEnded rs o r → NextRecordSound d aim file rs f i s e k r
-  end_visited aim [] {o} w no_record =
-      let at = on_finish d (target_of aim) file [] Here _ (follows (target_of aim) []) o (sym m.event ∙ w) in
+  pub end_visited : (target : Option Dialect) (rs : List Rec) {o : ℕ} {r : Result (Option Cursor) Report} → v ≡ End o → FileEnded rs o r → NextRecordSound d target file rs f i s e k r
+  end_visited target [] {o} w no_record =
+      let at = on_finish d (target_of target) file [] Here _ (follows (target_of target) []) o (sym m.event ∙ w) in
       let q : report (number_of NoRecord) 1 (column_of NoRecord) o ≡ fault_report NoRecord at.r
       = ap (λ (n : ℕ). report (number_of NoRecord) 1 (column_of NoRecord) n) (sym at.place)
       ∙ report_byte NoRecord at.r 0 refl (ap length at.done) in
-      subst (λ (t : Report). NextRecordSound d aim file [] f i s e k (Refused t)) (sym q) (refused NoRecord at.r at.rest)
-  end_visited aim (h ∷ rs) {o} w at_end =
-      let at = on_finish d (target_of aim) file (h ∷ rs) Here _ (follows (target_of aim) (h ∷ rs)) o (sym m.event ∙ w) in
+      subst (λ (t : Report). NextRecordSound d target file [] f i s e k (Err t)) (sym q) (refused NoRecord at.r at.rest)
+  end_visited target (h ∷ rs) {o} w at_end =
+      let at = on_finish d (target_of target) file (h ∷ rs) Here _ (follows (target_of target) (h ∷ rs)) o (sym m.event ∙ w) in
       finished at.r at.rest at.done

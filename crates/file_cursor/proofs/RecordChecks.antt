@@ -3,7 +3,9 @@ use Prim.Native.Nat.{ℕ, suc, ◌+◌, ◌≤◌, ◌<◌}
 use native.Mathlib.Omega.{arith}
 use mathlib.Core.Path.{◌≡◌, refl, sym, ap, subst, ◌∙◌}
 use mathlib.Core.Bool.{Bool}
-use Rattle.std.specs.Prelude.{Option, None, Some}
+use Rattle.std.specs.Prelude.{Option, None, Some, Result, Ok, Err}
+use Rattle.core.specs.Result.{result_and, result_ok, IfOk}
+use Rattle.std.proofs.lemmas.Result.{IfOk-at_ok}
 use mathlib.Core.List.{List, [], ◌∷◌, ◌++◌}
 use lib.ListN.{length, length-append}
 use lib.Dec.{ltb, eqb}
@@ -15,7 +17,6 @@ use Rattle.model.specs.declared.Fault.{Fault}
 use Rattle.model.specs.declared.Fault.TheVariants.{NoRecord, TooManyColumns}
 use Rattle.model.specs.declared.Report.{Report}
 use Rattle.model.specs.rules.Types.{CheckResult}
-use Rattle.std.specs.Prelude.{Ok, Err}
 use Rattle.model.specs.rules.Base.{Bytes, is_empty, choose◌then◌else◌}
 use Rattle.model.specs.rules.Dialect.{into}
 use Rattle.model.specs.rules.Text.{Value, record_text, table_text, ending}
@@ -26,14 +27,15 @@ use Rattle.model.proofs.round_trip.TableText.{rows_empty, table_snoc}
 use Rattle.model.proofs.TargetLaws.{record_target}
 use Rattle.file_cursor.proofs.Complete.{header_fault_lem, data_fault_lem}
 use Rattle.record_check.specs.SourceFault.{source_fault}
-use Rattle.record_target.specs.declared.TargetCheck.{TargetCheck}
-use Rattle.file_cursor.specs.declared.Aim.{Aim}
 use Rattle.file_cursor.specs.declared.Cursor.{Cursor}
-use Rattle.file_cursor.specs.declared.Aim.TheVariants.{Reading, Into}
-use Rattle.file_cursor.specs.declared.NextRecord.TheVariants.{Record, End, Refused}
 use Rattle.file_cursor.specs.NextRecord.{target_of, text_of, text_next, cursor_of, Columns, After, CheckSound, RecordChecked, sound, faulty}
 use Rattle.file_cursor.specs.NextRecord.{FileEnded, no_record, at_end}
 use Rattle.record_fast.specs.CellLists.{Shows}
+
+-- the value of a result
+pub from_ok : (r : Result ℕ Fault) {n : ℕ} → result_ok r ≡ Some n → r ≡ Ok n
+from_ok (Ok m) {n} h = let z : m ≡ n = cc in rw z refl
+from_ok (Err e) h = let z : ◌≡◌ {A = ℕ} 0 1 = cc in absurd (omega arith)
 
 -- ---- the source's checks
 
@@ -54,11 +56,11 @@ data_checked d vs v done columns n e (h ∷ rs) l c = e ∙ ap (λ (m : ℕ). da
 
 -- a fault in its source stays, whatever the target says
 source_first :
-    (d : Dialect) (aim : Aim) (rs : List Rec) (vs : List Value) (e : Fault) → record_fault d None rs vs ≡ Err e →
-    record_fault d (target_of aim) rs vs ≡ Err e
+    (d : Dialect) (target : Option Dialect) (rs : List Rec) (vs : List Value) (e : Fault) → record_fault d None rs vs ≡ Err e →
+    record_fault d (target_of target) rs vs ≡ Err e
 unfolding ◌or_else◌
-source_first d Reading rs vs e h = h
-source_first d (Into t) rs vs e h = record_target d (into t) rs vs ∙ rw h
+source_first d None rs vs e h = h
+source_first d (Some t) rs vs e h = record_target d (into t) rs vs ∙ rw h
 
 target_next :
     (d : Dialect) (t : Dialect) (rs : List Rec) (vs : List Value) →
@@ -76,56 +78,69 @@ pub empty_none : (rs : List Rec) (done : ℕ) → length rs ≡ done → eqb don
 empty_none [] done l = rw (sym l) refl
 empty_none (h ∷ rs) done l = ne_eqb done 0 (λ z. omega arith)
 
+-- a check result first, and then a number
+and_first : (w : CheckResult) (n : ℕ) (e : Fault) → w ≡ Err e → result_and w (Ok n) ≡ Err e
+and_first w n e h = rw h refl
+
+and_if_ok : (w : CheckResult) (n : ℕ) (P : ℕ → Type 0) → (w ≡ Ok tt → P n) → IfOk (result_and w (Ok n)) P
+and_if_ok (Ok _) n P f = f refl
+and_if_ok (Err e) n P f = tt
+
+and_faulty : (w : CheckResult) (n : ℕ) (e : Fault) → result_and w (Ok n) ≡ Err e → w ≡ Err e
+and_faulty (Ok _) n e h = fault_sound (sym h)
+and_faulty (Err x) n e h = let z : x ≡ e = cc in ap (λ (y : Fault). Err y) z
+
+and_sound : (w : CheckResult) (n m : ℕ) → result_and w (Ok n) ≡ Ok m → (w ≡ Ok tt) × (n ≡ m)
+and_sound (Ok _) n m h = let z : n ≡ m = cc in (refl, z)
+and_sound (Err x) n m h = fault_sound h
+
 module _ (d : Dialect) (at : Cursor) (vs : List Value) (u : CheckResult)
     (by_source : (rs : List Rec) → length rs ≡ at.done → Columns rs at.columns → u ≡ record_fault d None rs vs) where
-  pub asked_faulty : (aim : Aim) (e : Fault) → u ≡ Err e → CheckSound d aim at vs (record { verdict = Err e; length = 0 })
-  asked_faulty aim e h =
+  pub asked_faulty : (target : Option Dialect) (e : Fault) → u ≡ Err e → CheckSound d target at vs (Err e)
+  asked_faulty target e h =
       record {
-        verdict = λ rs a. sym (source_first d aim rs vs e (sym (by_source rs a.count a.headed) ∙ h));
-        text = λ rs l s. fault_sound s;
-        fits = λ s. fault_sound s;
+        checked = λ rs a. sym (and_first _ _ e (source_first d target rs vs e (sym (by_source rs a.count a.headed) ∙ h)));
+        fits = tt;
       }
 
-  pub asked_reading :
-      (aim : Aim) (v : CheckResult) → aim ≡ Reading → v ≡ u → at.written ≤ MAXFILE →
-      CheckSound d aim at vs (record { verdict = v; length = 0 })
-  asked_reading aim v q h w =
-      rw q
-      (record {
-        verdict = λ rs a. h ∙ by_source rs a.count a.headed;
-        text = λ rs l s. refl;
-        fits = λ s. omega arith;
-      })
+  pub asked_reading : (target : Option Dialect) → target ≡ None → u ≡ Ok tt → at.written ≤ MAXFILE → CheckSound d target at vs (Ok 0)
+  asked_reading target q h w =
+      rw q (record { checked = λ rs a. ap (λ (x : CheckResult). result_and x (Ok 0)) (sym h ∙ by_source rs a.count a.headed); fits = omega arith })
 
   -- the fault that the target finds if the source finds none
   abbrev Target-fault : Dialect → CheckResult
   Target-fault t = target_fault (into t) (eqb at.done 0) at.written vs
 
+  -- the length of the text in the target
+  abbrev Target-length : Dialect → (header : Bool) → Result ℕ Fault
+  Target-length t header = Ok (length (record_text (into t) header vs ++ ending t))
+
   pub asked_both :
-      (aim : Aim) (t : Dialect) (r : TargetCheck) → aim ≡ Into t → r.verdict ≡ (u or_else Target-fault t) →
-      (r.verdict ≡ Ok tt → r.length ≡ length (record_text (into t) (eqb at.done 0) vs ++ ending t)) → CheckSound d aim at vs r
-  asked_both aim t r q v l = rw q (record { verdict = verdict; text = text; fits = fits })
+      (target : Option Dialect) (t : Dialect) (r : Result ℕ Fault) → target ≡ Some t →
+      r ≡ result_and (u or_else Target-fault t) (Target-length t (eqb at.done 0)) → CheckSound d target at vs r
+  asked_both target t r q v = rw q (record { checked = checked; fits = fits })
     where
-      verdict : (rs : List Rec) → After (Into t) at rs → r.verdict ≡ record_fault d (Some (into t)) rs vs
-      verdict rs a =
-          v ∙ ap (λ (x : CheckResult). x or_else Target-fault t) (by_source rs a.count a.headed)
-          ∙ ap (λ (b : Bool). record_fault d None rs vs or_else target_fault (into t) b at.written vs) (empty_none rs at.done a.count)
-          ∙ ap (λ (n : ℕ). record_fault d None rs vs or_else target_fault (into t) (is_empty rs) n vs) (sym a.text)
-          ∙ sym (target_next d t rs vs)
+      checked : (rs : List Rec) → After (Some t) at rs → r ≡ result_and (record_fault d (Some (into t)) rs vs) (Target-length t (is_empty rs))
+      checked rs a =
+          v
+          ∙ ap (λ (x : CheckResult). result_and (x or_else Target-fault t) (Target-length t (eqb at.done 0))) (by_source rs a.count a.headed)
+          ∙ ap (λ (b : Bool). result_and (record_fault d None rs vs or_else target_fault (into t) b at.written vs) (Target-length t b))
+          (empty_none rs at.done a.count)
+          ∙ ap (λ (n : ℕ). result_and (record_fault d None rs vs or_else target_fault (into t) (is_empty rs) n vs) (Target-length t (is_empty rs)))
+          (sym a.text)
+          ∙ ap (λ (x : CheckResult). result_and x (Target-length t (is_empty rs))) (sym (target_next d t rs vs))
 
-      text : (rs : List Rec) → length rs ≡ at.done → r.verdict ≡ Ok tt → r.length ≡ length (text_next (Into t) (is_empty rs) vs)
-      text rs c s = l s ∙ ap (λ (b : Bool). length (record_text (into t) b vs ++ ending t)) (empty_none rs at.done c)
-
-      fits : r.verdict ≡ Ok tt → at.written + r.length ≤ MAXFILE
-      fits s =
-          let x = else_sound u (Target-fault t) (sym v ∙ s) in
-          let f = target_sound (into t) (eqb at.done 0) at.written vs x.1 in
-          rw (l s) f.fits
+      fits : IfOk r (λ n. at.written + n ≤ MAXFILE)
+      fits =
+          subst (λ (x : Result ℕ Fault). IfOk x (λ n. at.written + n ≤ MAXFILE)) (sym v)
+          (and_if_ok (u or_else Target-fault t) _ (λ n. at.written + n ≤ MAXFILE)
+          λ s. (target_sound (into t) (eqb at.done 0) at.written vs (else_sound u (Target-fault t) s).1).fits)
 
   pub asked_into :
-      (aim : Aim) (t : Dialect) (r : TargetCheck) → aim ≡ Into t → u ≡ Ok tt → r.verdict ≡ Target-fault t →
-      (r.verdict ≡ Ok tt → r.length ≡ length (record_text (into t) (eqb at.done 0) vs ++ ending t)) → CheckSound d aim at vs r
-  asked_into aim t r q h v l = asked_both aim t r q (v ∙ or_next u (Target-fault t) h) l
+      (target : Option Dialect) (t : Dialect) (r : Result ℕ Fault) → target ≡ Some t → u ≡ Ok tt →
+      r ≡ result_and (Target-fault t) (Target-length t (eqb at.done 0)) → CheckSound d target at vs r
+  asked_into target t r q h v =
+      asked_both target t r q (v ∙ ap (λ (x : CheckResult). result_and x (Target-length t (eqb at.done 0))) (or_next u (Target-fault t) h))
 
 -- ---- the result
 
@@ -145,54 +160,56 @@ numbered rs done e start t l h =
     let n : suc (length rs) ≡ done + 1 = omega arith in
     ap (λ (m : ℕ). report (number_of e) m (column_of e) start) n ∙ sym h
 
-module _ (d : Dialect) (aim : Aim) (file : Bytes) (starts ends kinds : List ℕ) (at : Cursor) (start cells : ℕ) (f : FileState) (o : ℕ)
-    (rs : List Rec) (vs : List Value) (a : After aim at rs) (y : Shows d file vs cells starts ends kinds) where
+module _ (d : Dialect) (target : Option Dialect) (file : Bytes) (starts ends kinds : List ℕ) (at : Cursor) (start cells : ℕ) (f : FileState) (o : ℕ)
+    (rs : List Rec) (vs : List Value) (a : After target at rs) (y : Shows d file vs cells starts ends kinds) where
   completes_faulty :
-      (e : Fault) (t : Report) → record_fault d (target_of aim) rs vs ≡ Err e → t ≡ report (number_of e) (at.done + 1) (column_of e) start →
-      RecordChecked d aim rs vs start f o (Refused t)
+      (e : Fault) (t : Report) → record_fault d (target_of target) rs vs ≡ Err e → t ≡ report (number_of e) (at.done + 1) (column_of e) start →
+      RecordChecked d target rs vs start f o (Err t)
   completes_faulty e t h q =
-      subst (λ (x : Report). RecordChecked d aim rs vs start f o (Refused x)) (numbered rs at.done e start t a.count q) (faulty e h)
+      subst (λ (x : Report). RecordChecked d target rs vs start f o (Err x)) (numbered rs at.done e start t a.count q) (faulty e h)
 
   pub too_many :
       (t : Report) → MAXCOLUMNS < cells → t ≡ report (number_of TooManyColumns) (at.done + 1) (column_of TooManyColumns) start →
-      RecordChecked d aim rs vs start f o (Refused t)
-  too_many t h q = completes_faulty TooManyColumns t (columns_fault d (target_of aim) rs vs (omega (arith, y.count))) q
+      RecordChecked d target rs vs start f o (Err t)
+  too_many t h q = completes_faulty TooManyColumns t (columns_fault d (target_of target) rs vs (omega (arith, y.count))) q
 
   -- the check was of the cells that the lists show
-  module _ (ws : List Value) (same : cells ≤ MAXCOLUMNS → ws ≡ vs) (few : cells ≤ MAXCOLUMNS) (r : TargetCheck) (z : CheckSound d aim at ws r) where
-    pub ruled_faulty :
-        (e : Fault) (t : Report) → r.verdict ≡ Err e → t ≡ report (number_of e) (at.done + 1) (column_of e) start →
-        RecordChecked d aim rs vs start f o (Refused t)
-    ruled_faulty e t h q =
-        completes_faulty e t (ap (record_fault d (target_of aim) rs) (sym (same few)) ∙ sym (z.verdict rs a) ∙ h) q
+  module _ (ws : List Value) (same : cells ≤ MAXCOLUMNS → ws ≡ vs) (few : cells ≤ MAXCOLUMNS) (r : Result ℕ Fault) (z : CheckSound d target at ws r) where
+    now : r ≡ result_and (record_fault d (target_of target) rs vs) (Ok (length (text_next target (is_empty rs) vs)))
+    now =
+        z.checked rs a
+        ∙ ap (λ (l : List Value). result_and (record_fault d (target_of target) rs l) (Ok (length (text_next target (is_empty rs) l)))) (same few)
 
-    pub ruled_sound : r.verdict ≡ Ok tt → RecordChecked d aim rs vs start f o (Record (cursor_of (at.done + 1) cells (at.written + r.length) o f))
-    ruled_sound h =
-        let l : r.length ≡ length (text_next aim (is_empty rs) vs)
-        = z.text rs a.count h ∙ ap (λ (l : List Value). length (text_next aim (is_empty rs) l)) (same few) in
-        let t : length (text_of aim rs) ≡ at.written = a.text in
-        sound {w = at.written + r.length} (ap (record_fault d (target_of aim) rs) (sym (same few)) ∙ sym (z.verdict rs a) ∙ h)
-        (ap (λ (n : ℕ). n + 1) a.count) y.count few (omega arith) (z.fits h)
+    pub ruled_faulty :
+        (e : Fault) (t : Report) → r ≡ Err e → t ≡ report (number_of e) (at.done + 1) (column_of e) start → RecordChecked d target rs vs start f o (Err t)
+    ruled_faulty e t h q = completes_faulty e t (and_faulty _ _ e (sym now ∙ h)) q
+
+    pub ruled_sound : (n : ℕ) → r ≡ Ok n → RecordChecked d target rs vs start f o (Ok (Some (cursor_of (at.done + 1) cells (at.written + n) o f)))
+    ruled_sound n h =
+        let k = and_sound _ _ n (sym now ∙ h) in
+        sound {w = at.written + n} k.0 (ap (λ (n : ℕ). n + 1) a.count) y.count few
+        (ap (λ (m : ℕ). m + length (text_next target (is_empty rs) vs)) a.text ∙ ap (λ (m : ℕ). at.written + m) k.1)
+        (IfOk-at_ok (λ n. at.written + n ≤ MAXFILE) h z.fits)
 
 -- ---- the end of the file
 
 pub ends_first :
     (done o : ℕ) (t : Report) → done ≡ 0 → t ≡ report (number_of NoRecord) 1 (column_of NoRecord) o → (rs : List Rec) → length rs ≡ done →
-    FileEnded rs o (Refused t)
-ends_first done o t z e [] l = subst (λ (x : Report). FileEnded [] o (Refused x)) (sym e) no_record
+    FileEnded rs o (Err t)
+ends_first done o t z e [] l = subst (λ (x : Report). FileEnded [] o (Err x)) (sym e) no_record
 ends_first done o t z e (h ∷ rs) l = absurd (omega arith)
 
-pub ends_later : (done o : ℕ) → (done ≡ 0 → ⊥) → (rs : List Rec) → length rs ≡ done → FileEnded rs o End
+pub ends_later : (done o : ℕ) → (done ≡ 0 → ⊥) → (rs : List Rec) → length rs ≡ done → FileEnded rs o (Ok None)
 ends_later done o n [] l = absurd (n (sym l))
 ends_later done o n (h ∷ rs) l = at_end
 
 -- ---- one record more
 
 pub text_snoc :
-    (aim : Aim) (rs : List Rec) (x : Rec) →
-    length (text_of aim (rs ++ (x ∷ []))) ≡ length (text_of aim rs) + length (text_next aim (is_empty rs) x.cells)
-text_snoc Reading rs x = refl
-text_snoc (Into t) rs x =
+    (target : Option Dialect) (rs : List Rec) (x : Rec) →
+    length (text_of target (rs ++ (x ∷ []))) ≡ length (text_of target rs) + length (text_next target (is_empty rs) x.cells)
+text_snoc None rs x = refl
+text_snoc (Some t) rs x =
     ap length (table_snoc (into t) rs x)
     ∙ length-append (table_text (into t) (rows rs)) (record_text (into t) (is_empty rs) x.cells ++ ending t)
 

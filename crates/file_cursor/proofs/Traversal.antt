@@ -1,7 +1,7 @@
 -- Reading a file by its cursor: the invariant between two records, and how each result preserves it or ends reading.
 use Prim.Native.Nat.{ℕ, ◌+◌, ◌-◌, ◌≤◌, ◌<◌}
 use native.Mathlib.Omega.{arith}
-use mathlib.Core.Path.{◌≡◌, refl, sym, subst, ◌∙◌}
+use mathlib.Core.Path.{◌≡◌, refl, sym, ap, subst, ◌∙◌}
 use mathlib.Core.Bool.{true}
 use mathlib.Core.List.{List, [], ◌∷◌, ◌++◌}
 use lib.ListN.{length, drop, length-append}
@@ -18,21 +18,18 @@ use Rattle.model.specs.rules.Records.{Rec, rows, Read, between_records, nothing_
 use Rattle.model.specs.rules.Records.{read_file, records_of}
 use Rattle.model.proofs.file_laws.ReadAppend.{read_grows, end_grows, grows_trans}
 use Rattle.record_scanner.specs.Tokens.{outer}
-use Rattle.file_cursor.specs.declared.Aim.{Aim}
-use Rattle.file_cursor.specs.declared.Aim.TheVariants.{Reading, Into}
+use Rattle.std.specs.Prelude.{Option, None, Some, Result, Ok, Err}
 use Rattle.file_cursor.specs.declared.Cursor.{Cursor}
-use Rattle.file_cursor.specs.declared.NextRecord.{NextRecord}
-use Rattle.file_cursor.specs.declared.NextRecord.TheVariants.{Record, End, Refused}
 use Rattle.file_cursor.specs.NextRecord as visits
 use Rattle.file_cursor.specs.FileOutcome.{rest_of}
 use Rattle.file_cursor.specs.NextRecord.{target_of, cursor_of, at_start, After, NextRecordSound}
 use Rattle.record_fast.specs.CellLists.{Long, SameLengths}
 
 -- the whole file is what is left from the cursor on, after the records rs
-pub record Walking (d : Dialect) (aim : Aim) (file : Bytes) (c : Cursor) : Type 0 where
+pub record Walking (d : Dialect) (target : Option Dialect) (file : Bytes) (c : Cursor) : Type 0 where
   pub rs : List Rec
-  pub rest : read_file d (target_of aim) file ≡ rest_of d (target_of aim) file rs c.state c.offset
-  pub after : After aim c rs
+  pub rest : read_file d (target_of target) file ≡ rest_of d (target_of target) file rs c.state c.offset
+  pub after : After target c rs
   pub inside : c.offset ≤ length file
   pub under : c.offset ≤ MAXFILE
   pub between : outer c.state ≡ true
@@ -40,27 +37,27 @@ pub record Walking (d : Dialect) (aim : Aim) (file : Bytes) (c : Cursor) : Type 
   pub short : c.written ≤ MAXFILE
 
 -- the same of the cursor's fields
-pub by_fields : {aim : Aim} {c : Cursor} {rs : List Rec} → After aim c rs → After aim (cursor_of c.done c.columns c.written c.offset c.state) rs
+pub by_fields : {target : Option Dialect} {c : Cursor} {rs : List Rec} → After target c rs → After target (cursor_of c.done c.columns c.written c.offset c.state) rs
 by_fields a = record { count = a.count; headed = a.headed; text = a.text }
 
 -- before the first record
-pub nothing_yet : (aim : Aim) → After aim at_start []
+pub nothing_yet : (target : Option Dialect) → After target at_start []
 unfolding rows table_text
-nothing_yet Reading = record { count = refl; headed = tt; text = refl }
-nothing_yet (Into t) = record { count = refl; headed = tt; text = refl }
+nothing_yet None = record { count = refl; headed = tt; text = refl }
+nothing_yet (Some t) = record { count = refl; headed = tt; text = refl }
 
-pub whole_rest : (d : Dialect) (aim : Aim) (file : Bytes) → read_file d (target_of aim) file ≡ rest_of d (target_of aim) file [] Top 0
+pub whole_rest : (d : Dialect) (target : Option Dialect) (file : Bytes) → read_file d (target_of target) file ≡ rest_of d (target_of target) file [] Top 0
 unfolding read_file read_bytes nothing_read
-whole_rest d aim file = refl
+whole_rest d target file = refl
 
-module _ (d : Dialect) (aim : Aim) (file : Bytes) (c : Cursor) (q : c ≡ at_start) where
-  pub sets_out : Walking d aim file c
+module _ (d : Dialect) (target : Option Dialect) (file : Bytes) (c : Cursor) (q : c ≡ at_start) where
+  pub sets_out : Walking d target file c
   sets_out =
       rw q
       (record {
         rs = [];
-        rest = whole_rest d aim file;
-        after = nothing_yet aim;
+        rest = whole_rest d target file;
+        after = nothing_yet target;
         inside = omega arith;
         under = omega arith;
         between = refl;
@@ -72,10 +69,10 @@ module _ (d : Dialect) (aim : Aim) (file : Bytes) (c : Cursor) (q : c ≡ at_sta
   unfolding sets_out
   sets_rs = refl
 
-module _ {d : Dialect} {aim : Aim} {file : Bytes} {c : Cursor} (y : Walking d aim file c) where
+module _ {d : Dialect} {target : Option Dialect} {file : Bytes} {c : Cursor} (y : Walking d target file c) where
   -- one record more
-  module _ {starts ends kinds : List ℕ} {v : Cursor} (n : visits.Next d aim file y.rs c.state c.offset starts ends kinds v) where
-    pub walks_on : Walking d aim file v
+  module _ {starts ends kinds : List ℕ} {v : Cursor} (n : visits.Next d target file y.rs c.state c.offset starts ends kinds v) where
+    pub walks_on : Walking d target file v
     walks_on =
         let l : length (y.rs ++ (n.rec ∷ [])) ≡ length y.rs + 1 = length-append y.rs (n.rec ∷ []) in
         record {
@@ -94,11 +91,11 @@ module _ {d : Dialect} {aim : Aim} {file : Bytes} {c : Cursor} (y : Walking d ai
     walks_rs = refl
 
   -- the records so far are the first of the file
-  pub grows : Grows y.rs (records_of (read_file d (target_of aim) file))
+  pub grows : Grows y.rs (records_of (read_file d (target_of target) file))
   grows =
       rw y.rest
-      (grows_trans (read_grows d (target_of aim) (going (between_records y.rs c.state c.offset)) (drop c.offset file))
-      (end_grows d (target_of aim) (read_from d (target_of aim) (going (between_records y.rs c.state c.offset)) (drop c.offset file))))
+      (grows_trans (read_grows d (target_of target) (going (between_records y.rs c.state c.offset)) (drop c.offset file))
+      (end_grows d (target_of target) (read_from d (target_of target) (going (between_records y.rs c.state c.offset)) (drop c.offset file))))
 
   -- what the cursor's call requires
   pub walk_bounds : ((c.offset ≤ length file) × (c.offset ≤ MAXFILE) × (outer c.state ≡ true)) × ((c.done ≤ c.offset) × (c.written ≤ MAXFILE))
@@ -106,7 +103,7 @@ module _ {d : Dialect} {aim : Aim} {file : Bytes} {c : Cursor} (y : Walking d ai
 
   -- less is left after one record more
   pub walk_less :
-      {starts ends kinds : List ℕ} {v : Cursor} → visits.Next d aim file y.rs c.state c.offset starts ends kinds v →
+      {starts ends kinds : List ℕ} {v : Cursor} → visits.Next d target file y.rs c.state c.offset starts ends kinds v →
       length file - v.offset < length file - c.offset
   walk_less n = omega (arith, n.onward, n.inside)
 
@@ -114,6 +111,10 @@ module _ {d : Dialect} {aim : Aim} {file : Bytes} {c : Cursor} (y : Walking d ai
 
 other : {A : Type 0} → ◌≡◌ {A = ℕ} 0 1 → A
 other z = absurd (omega arith)
+
+-- a result by its value
+pub at_value : {o : Result (Option Cursor) Report} {w x : Option Cursor} → o ≡ Ok w → w ≡ x → o ≡ Ok x
+at_value q e = q ∙ ap (λ (y : Option Cursor). Ok y) e
 
 -- reading ends after these records
 pub record AtEnd (p : Progress) (rs : List Rec) : Type 0 where
@@ -128,22 +129,22 @@ pub record AtFault (p : Progress) (t : Report) : Type 0 where
   pub rest : p ≡ stopped fault r
   pub report : t ≡ fault_report fault r
 
-module _ {d : Dialect} {aim : Aim} {file : Bytes} {rs : List Rec} {f : FileState} {i : ℕ} {starts ends kinds : List ℕ} where
+module _ {d : Dialect} {target : Option Dialect} {file : Bytes} {rs : List Rec} {f : FileState} {i : ℕ} {starts ends kinds : List ℕ} where
   pub came :
-      {o : NextRecord} {v : Cursor} → NextRecordSound d aim file rs f i starts ends kinds o → o ≡ Record v →
-      visits.Next d aim file rs f i starts ends kinds v
-  came {v = v} (visits.read {v = w} n) q = let z : w ≡ v = cc in subst (visits.Next d aim file rs f i starts ends kinds) z n
+      {o : Result (Option Cursor) Report} {v : Cursor} → NextRecordSound d target file rs f i starts ends kinds o → o ≡ Ok (Some v) →
+      visits.Next d target file rs f i starts ends kinds v
+  came {v = v} (visits.read {v = w} n) q = let z : w ≡ v = cc in subst (visits.Next d target file rs f i starts ends kinds) z n
   came (visits.finished r p h) q = other cc
   came (visits.refused x r p) q = other cc
 
-  pub at_end : {o : NextRecord} → NextRecordSound d aim file rs f i starts ends kinds o → o ≡ End → AtEnd (rest_of d (target_of aim) file rs f i) rs
+  pub at_end : {o : Result (Option Cursor) Report} → NextRecordSound d target file rs f i starts ends kinds o → o ≡ Ok None → AtEnd (rest_of d (target_of target) file rs f i) rs
   at_end (visits.read n) q = other cc
   at_end (visits.finished r p h) q = record { r = r; rest = p; done = h }
   at_end (visits.refused x r p) q = other cc
 
   pub at_fault :
-      {o : NextRecord} {t : Report} → NextRecordSound d aim file rs f i starts ends kinds o → o ≡ Refused t →
-      AtFault (rest_of d (target_of aim) file rs f i) t
+      {o : Result (Option Cursor) Report} {t : Report} → NextRecordSound d target file rs f i starts ends kinds o → o ≡ Err t →
+      AtFault (rest_of d (target_of target) file rs f i) t
   at_fault (visits.read n) q = other cc
   at_fault (visits.finished r p h) q = other cc
   at_fault {t = t} (visits.refused x r p) q = let z : fault_report x r ≡ t = cc in record { fault = x; r = r; rest = p; report = sym z }

@@ -28,7 +28,6 @@ use Rattle.record_scanner.proofs.StoreLaws.{length_stored_from}
 use Rattle.file_cursor.proofs.RecordByRecord.{stays, reads_on}
 use Rattle.file_reader.specs.declared.pass.DataScan.{DataScan}
 use Rattle.file_reader.specs.declared.pass.DataScan.TheVariants as next
-use Rattle.file_reader.specs.declared.pass.PassResult.TheVariants.{Accepted, Refused}
 use Rattle.file_reader.specs.Passes.{data_scan, Holds, PassOutcome, accepted, refused, PassSound}
 use Rattle.record_scanner.proofs.FilledLists.{stored_from_append}
 use Rattle.file_cursor.proofs.Complete.{report_start, report_byte, data_fault_lem, rec_of, complete_sound, complete_faulty}
@@ -279,13 +278,13 @@ module _ (call : Call) where
 
         pub record_refused :
             (x : Fault) → u ≡ Err x → (t : Report) → t ≡ report (number_of x) (records + 2) (column_of x) start →
-            PassSound d file from first columns room s₀ e₀ k₀ (Refused t) s' e' k'
+            PassSound d file from first columns room s₀ e₀ k₀ (Err t) s' e' k'
         record_refused x z t te =
             record { vs = y.vs ++ Here.cells; lists = now_held; outcome = λ h q. out h q (y.turn h q); few = tt }
           where
             out :
                 (h : Rec) → length h.cells ≡ columns → Turned h y.vs f i records →
-                PassOutcome h (y.vs ++ Here.cells) (rest_of d None file (h ∷ []) first from) (Refused t)
+                PassOutcome h (y.vs ++ Here.cells) (rest_of d None file (h ∷ []) first from) (Err t)
             out h q a =
                 let at : AtData (h ∷ a.ds) (rest_of d None file (h ∷ a.ds) f i) = at_data (h ∷ a.ds) _ (next_follows h a.ds) last here in
                 let fault : record_fault d None at.r.done Here.cells ≡ Err x = fault_of h a.ds at.r q at.done ∙ z in
@@ -294,8 +293,8 @@ module _ (call : Call) where
                 = te ∙ ap (λ (m : ℕ). report (number_of x) m (column_of x) start) (sym two_more)
                 ∙ ap (λ (m : ℕ). report (number_of x) (suc (suc records)) (column_of x) m) (sym at.starts)
                 ∙ report_start d None at.r Here.cells x (suc records) fault (number at.r h a.ds at.done a.count) in
-                subst (λ (m : Progress). PassOutcome h (y.vs ++ Here.cells) m (Refused t)) (sym p)
-                (subst (λ (m : Report). PassOutcome h (y.vs ++ Here.cells) (stopped x at.r) (Refused m)) (sym b) (refused x at.r))
+                subst (λ (m : Progress). PassOutcome h (y.vs ++ Here.cells) m (Err t)) (sym p)
+                (subst (λ (m : Report). PassOutcome h (y.vs ++ Here.cells) (stopped x at.r) (Err m)) (sym b) (refused x at.r))
 
         -- ---- a sound record: more may follow, or the file's end completed it
 
@@ -337,13 +336,13 @@ module _ (call : Call) where
 
         pub last_accepted :
             last ≡ true → u ≡ Ok tt →
-            PassSound d file from first columns room s₀ e₀ k₀ (Accepted (records + 1) (cells + n)) s' e' k'
+            PassSound d file from first columns room s₀ e₀ k₀ (Ok (record { records = records + 1; cells = cells + n })) s' e' k'
         last_accepted lz z =
             record { vs = y.vs ++ Here.cells; lists = now_held; outcome = λ h q. out h q (y.turn h q); few = few_here }
           where
             out :
                 (h : Rec) → length h.cells ≡ columns → Turned h y.vs f i records →
-                PassOutcome h (y.vs ++ Here.cells) (rest_of d None file (h ∷ []) first from) (Accepted (records + 1) (cells + n))
+                PassOutcome h (y.vs ++ Here.cells) (rest_of d None file (h ∷ []) first from) (Ok (record { records = records + 1; cells = cells + n }))
             out h q a =
                 let at = on_last d None file (h ∷ a.ds) Here _ (next_follows h a.ds) start n (last_here (subst Is lz here)) in
                 let rec : Rec = rec_of at.r Here.cells in
@@ -358,13 +357,13 @@ module _ (call : Call) where
 
       pub fault_refused :
           (x : Fault) (o : ℕ) → v ≡ next.Failed x o → (t : Report) → t ≡ report (number_of x) (records + 2) (column_of x) o →
-          PassSound d file from first columns room s₀ e₀ k₀ (Refused t) s' e' k'
+          PassSound d file from first columns room s₀ e₀ k₀ (Err t) s' e' k'
       fault_refused x o w t te =
           record { vs = y.vs ++ Here.cells; lists = now_held; outcome = λ h q. out h q (y.turn h q); few = tt }
         where
           out :
               (h : Rec) → length h.cells ≡ columns → Turned h y.vs f i records →
-              PassOutcome h (y.vs ++ Here.cells) (rest_of d None file (h ∷ []) first from) (Refused t)
+              PassOutcome h (y.vs ++ Here.cells) (rest_of d None file (h ∷ []) first from) (Err t)
           out h q a =
               let at = on_fault d None file (h ∷ a.ds) Here _ (next_follows h a.ds) x o
               (is_fault (length file) Here.event x o (sym w ∙ found.0)) in
@@ -375,7 +374,7 @@ module _ (call : Call) where
               ∙ (report_byte x at.r (suc records) at.byte (number at.r h a.ds at.done a.count)) in
               rw (p, z) (refused x at.r)
 
-      pub finish_accepted : v ≡ next.End → PassSound d file from first columns room s₀ e₀ k₀ (Accepted records cells) s' e' k'
+      pub finish_accepted : v ≡ next.End → PassSound d file from first columns room s₀ e₀ k₀ (Ok (record { records = records; cells = cells })) s' e' k'
       finish_accepted w =
           record { vs = y.vs ++ Here.cells; lists = now_held; outcome = λ h q. out h q (y.turn h q); few = small }
         where
@@ -384,7 +383,7 @@ module _ (call : Call) where
 
           out :
               (h : Rec) → length h.cells ≡ columns → Turned h y.vs f i records →
-              PassOutcome h (y.vs ++ Here.cells) (rest_of d None file (h ∷ []) first from) (Accepted records cells)
+              PassOutcome h (y.vs ++ Here.cells) (rest_of d None file (h ∷ []) first from) (Ok (record { records = records; cells = cells }))
           out h q a =
               let at = on_finish d None file (h ∷ a.ds) Here _ (next_follows h a.ds) _
               (is_end_lem (length file) Here.event (sym w ∙ found.0)) in
@@ -392,7 +391,7 @@ module _ (call : Call) where
               let n : Here.cells ≡ [] = at.none_left in
               let t : y.vs ++ Here.cells ≡ y.vs = ap (λ (l : List Value). y.vs ++ l) n ∙ append-nil y.vs in
               let c : length (y.vs ++ Here.cells) ≡ cells = ap length t ∙ y.counted in
-              subst (λ (g : Progress). PassOutcome h (y.vs ++ Here.cells) g (Accepted records cells)) (sym p)
-              (subst (λ (m : ℕ). PassOutcome h (y.vs ++ Here.cells) (going at.r) (Accepted m cells)) a.count
-              (subst (λ (m : ℕ). PassOutcome h (y.vs ++ Here.cells) (going at.r) (Accepted (length a.ds) m)) c
+              subst (λ (g : Progress). PassOutcome h (y.vs ++ Here.cells) g (Ok (record { records = records; cells = cells }))) (sym p)
+              (subst (λ (m : ℕ). PassOutcome h (y.vs ++ Here.cells) (going at.r) (Ok (record { records = m; cells = cells }))) a.count
+              (subst (λ (m : ℕ). PassOutcome h (y.vs ++ Here.cells) (going at.r) (Ok (record { records = length a.ds; cells = m }))) c
               (accepted at.r a.ds at.done (a.cells ∙ sym t))))

@@ -3,7 +3,7 @@ use Prim.Native.Nat.{ℕ, ◌+◌, ◌-◌, ◌≤◌, ◌<◌}
 use native.Mathlib.Omega.{arith}
 use mathlib.Core.Path.{◌≡◌, refl, sym, ap, subst, ◌∙◌}
 use mathlib.Core.Bool.{true, false}
-use Rattle.std.specs.Prelude.{None, Some}
+use Rattle.std.specs.Prelude.{Option, None, Some, Result, Ok, Err}
 use mathlib.Core.List.{List, [], ◌∷◌, ◌++◌, map, map-append, append-nil, append_assoc}
 use lib.ListN.{length, take, drop, length-append, length-map, length-drop, drop_of_length-le}
 use lib.Seq.{take-append_seam, drop-append_seam, drop-drop}
@@ -25,17 +25,13 @@ use Rattle.model.specs.rules.Api.{starts_of, ends_of, kinds_of}
 use Rattle.record_scanner.specs.Stored.{stored_from}
 use Rattle.codes.proofs.Least.{least_first, least_second}
 use Rattle.file_reader.specs.declared.Answer.{Answer}
-use Rattle.file_reader.specs.declared.pass.PassResult.{PassResult}
-use Rattle.file_reader.specs.declared.pass.PassResult.TheVariants.{Accepted, Refused}
+use Rattle.file_reader.specs.declared.pass.Counts.{Counts}
 use Rattle.file_reader.specs.Answers.{call_answer, reader_answer, answer_in}
 use Rattle.file_reader.specs.Passes as passes
 use Rattle.file_reader.specs.Passes.{PassOutcome, PassSound}
 use Rattle.file_reader.specs.Headers.{first_of, HeaderRead}
 use Rattle.record_scanner.proofs.FilledLists.{stored_from_none, stored_from_over}
-use Rattle.file_cursor.specs.declared.Aim.TheVariants.{Reading}
 use Rattle.file_cursor.specs.declared.Cursor.{Cursor}
-use Rattle.file_cursor.specs.declared.NextRecord.TheVariants as outcomes
-use Rattle.file_cursor.specs.declared.NextRecord as visitor
 use Rattle.file_cursor.specs.FileOutcome.{rest_of}
 use Rattle.file_cursor.specs.NextRecord.{at_start, After, NextRecordSound}
 use Rattle.file_cursor.proofs.Traversal.{nothing_yet, whole_rest, came, at_end, at_fault}
@@ -143,7 +139,7 @@ written_both φ room n vs ws old mid out c h l e f =
 record RefusedBy (g : Progress) (t : Report) : Type 0 where
   answer : (room : ℕ) → api.read_answer g room ≡ api.no_answer t
 
-refused_by : {h : Rec} {vs : List Value} {g : Progress} {t : Report} → PassOutcome h vs g (Refused t) → RefusedBy g t
+refused_by : {h : Rec} {vs : List Value} {g : Progress} {t : Report} → PassOutcome h vs g (Err t) → RefusedBy g t
 refused_by (passes.refused x r) = record { answer = λ room. refl }
 
 record AcceptedBy (h : Rec) (vs : List Value) (g : Progress) (n c : ℕ) : Type 0 where
@@ -155,12 +151,12 @@ record AcceptedBy (h : Rec) (vs : List Value) (g : Progress) (n c : ℕ) : Type 
   count : length ds ≡ n
   sized : length vs ≡ c
 
-accepted_by : {h : Rec} {vs : List Value} {g : Progress} {n c : ℕ} → PassOutcome h vs g (Accepted n c) → AcceptedBy h vs g n c
+accepted_by : {h : Rec} {vs : List Value} {g : Progress} {n c : ℕ} → PassOutcome h vs g (Ok (record { records = n; cells = c })) → AcceptedBy h vs g n c
 accepted_by (passes.accepted r ds q e) = record { r = r; ds = ds; same = refl; done = q; cells = e; count = refl; sized = refl }
 
 -- a second pass finds the same cells
 same_cells :
-    (h : Rec) (vs : List Value) (g : Progress) (p : PassResult) (r : Read) (ds : List Rec) → PassOutcome h vs g p → g ≡ going r →
+    (h : Rec) (vs : List Value) (g : Progress) (p : Result Counts Report) (r : Read) (ds : List Rec) → PassOutcome h vs g p → g ≡ going r →
     r.done ≡ h ∷ ds → concat (rows ds) ≡ vs
 same_cells h vs g p r ds (passes.accepted t es q e) same done =
     let a : t ≡ r = cc in
@@ -171,7 +167,7 @@ same_cells h vs g p r ds (passes.refused x t) same done = let z : ◌≡◌ {A =
 
 -- ---- the header, and what follows it
 
-module _ {d : Dialect} {file : Bytes} {n : ℕ} {f : FileState} {next : ℕ} {s₀ e₀ k₀ s₁ e₁ k₁ : List ℕ} {p : PassResult} where
+module _ {d : Dialect} {file : Bytes} {n : ℕ} {f : FileState} {next : ℕ} {s₀ e₀ k₀ s₁ e₁ k₁ : List ℕ} {p : Result Counts Report} where
   -- a pass with no room stores nothing
   pub unchanged : PassSound d file next f n 0 s₀ e₀ k₀ p s₁ e₁ k₁ → (s₁ ≡ s₀) × (e₁ ≡ e₀) × (k₁ ≡ k₀)
   unchanged y = (
@@ -180,26 +176,26 @@ module _ {d : Dialect} {file : Bytes} {n : ℕ} {f : FileState} {next : ℕ} {s�
     y.lists.at_kinds ∙ stored_from_none 0 (kinds_of y.vs) k₀,
   )
 
-  pub few_cells : {room records c : ℕ} → PassSound d file next f n room s₀ e₀ k₀ p s₁ e₁ k₁ → p ≡ Accepted records c → c ≤ MAXFILE + 1
-  few_cells y q = subst (λ (x : PassResult). passes.Few x) q y.few
+  pub few_cells : {room records c : ℕ} → PassSound d file next f n room s₀ e₀ k₀ p s₁ e₁ k₁ → p ≡ Ok (record { records = records; cells = c }) → c ≤ MAXFILE + 1
+  few_cells y q = subst (λ (x : Result Counts Report). passes.Few x) q y.few
 
 -- after a first pass that left the lists as they were
 module _ (room : ℕ) {d : Dialect} {file : Bytes} {n : ℕ} {f : FileState} {next : ℕ} (head : HeaderRead d file n f next) {m : ℕ}
-    {s₀ e₀ k₀ s₁ e₁ k₁ : List ℕ} {p : PassResult} (y : PassSound d file next f n m s₀ e₀ k₀ p s₁ e₁ k₁)
+    {s₀ e₀ k₀ s₁ e₁ k₁ : List ℕ} {p : Result Counts Report} (y : PassSound d file next f n m s₀ e₀ k₀ p s₁ e₁ k₁)
     (kept : (s₁ ≡ s₀) × (e₁ ≡ e₀) × (k₁ ≡ k₀)) where
   outcome : PassOutcome head.h y.vs (rest_of d None file (head.h ∷ []) f next) p
   outcome = y.outcome head.h head.count
 
-  pub data_refused : (t : Report) → p ≡ Refused t → (r : Answer) → r ≡ reader_answer (api.no_answer t) → Answered (answer_in d file room) r s₀ e₀ k₀ s₁ e₁ k₁
+  pub data_refused : (t : Report) → p ≡ Err t → (r : Answer) → r ≡ reader_answer (api.no_answer t) → Answered (answer_in d file room) r s₀ e₀ k₀ s₁ e₁ k₁
   data_refused t q r re =
-      let o : PassOutcome head.h y.vs (rest_of d None file (head.h ∷ []) f next) (Refused t)
-      = subst (λ (x : PassResult). PassOutcome head.h y.vs (rest_of d None file (head.h ∷ []) f next) x) q outcome in
+      let o : PassOutcome head.h y.vs (rest_of d None file (head.h ∷ []) f next) (Err t)
+      = subst (λ (x : Result Counts Report). PassOutcome head.h y.vs (rest_of d None file (head.h ∷ []) f next) x) q outcome in
       refusing (answer_in d file room) t r s₀ e₀ k₀ s₁ e₁ k₁
       (ap (λ (g : Progress). api.read_answer g room) head.rest ∙ (refused_by o).answer room) re kept.0 kept.1 kept.2
 
-  module _ {records c : ℕ} (q : p ≡ Accepted records c) where
+  module _ {records c : ℕ} (q : p ≡ Ok (record { records = records; cells = c })) where
     by : AcceptedBy head.h y.vs (rest_of d None file (head.h ∷ []) f next) records c
-    by = accepted_by (subst (λ (x : PassResult). PassOutcome head.h y.vs (rest_of d None file (head.h ∷ []) f next) x) q outcome)
+    by = accepted_by (subst (λ (x : Result Counts Report). PassOutcome head.h y.vs (rest_of d None file (head.h ∷ []) f next) x) q outcome)
 
     all : read_file d None file ≡ going by.r
     all = head.rest ∙ by.same
@@ -222,7 +218,7 @@ module _ (room : ℕ) {d : Dialect} {file : Bytes} {n : ℕ} {f : FileState} {ne
     module _ (fit : (room ≤ length s₀) × (room ≤ length e₀) × (room ≤ length k₀)) (l : n + c ≤ room) {s₂ e₂ k₂ : List ℕ}
         (ps : s₂ ≡ stored_from room 0 (starts_of (first_of d file).cells) s₁)
         (pe : e₂ ≡ stored_from room 0 (ends_of (first_of d file).cells) e₁) (pk : k₂ ≡ stored_from room 0 (kinds_of (first_of d file).cells) k₁)
-        {p₂ : PassResult} {s₃ e₃ k₃ : List ℕ}
+        {p₂ : Result Counts Report} {s₃ e₃ k₃ : List ℕ}
         (z : PassSound d file next f n (room - n) (PartFrom n s₂) (PartFrom n e₂) (PartFrom n k₂) p₂ s₃ e₃ k₃) where
       again : concat (rows by.ds) ≡ z.vs
       again =
@@ -264,41 +260,41 @@ module _ (room : ℕ) {d : Dialect} {file : Bytes} {n : ℕ} {f : FileState} {ne
 
 -- the cursor's result from the start of the file
 pub from_start :
-    {d : Dialect} {file : Bytes} {s e k : List ℕ} {o : visitor.NextRecord} {c : Cursor} → c ≡ at_start →
-    ((rs : List Rec) → After Reading c rs → NextRecordSound d Reading file rs c.state c.offset s e k o) →
-    NextRecordSound d Reading file [] Top 0 s e k o
+    {d : Dialect} {file : Bytes} {s e k : List ℕ} {o : Result (Option Cursor) Report} {c : Cursor} → c ≡ at_start →
+    ((rs : List Rec) → After None c rs → NextRecordSound d None file rs c.state c.offset s e k o) →
+    NextRecordSound d None file [] Top 0 s e k o
 from_start {d} {file} {s} {e} {k} {o} q f =
-    let a : After Reading _ [] = subst (λ (c : Cursor). After Reading c []) (sym q) (nothing_yet Reading) in
-    subst (λ (c : Cursor). NextRecordSound d Reading file [] c.state c.offset s e k o) q (f [] a)
+    let a : After None _ [] = subst (λ (c : Cursor). After None c []) (sym q) (nothing_yet None) in
+    subst (λ (c : Cursor). NextRecordSound d None file [] c.state c.offset s e k o) q (f [] a)
 
-module _ {d : Dialect} {file : Bytes} {s e k : List ℕ} {o : visitor.NextRecord} (v : NextRecordSound d Reading file [] Top 0 s e k o) where
-  pub begins : {x : Cursor} → o ≡ outcomes.Record x → HeaderRead d file x.columns x.state x.offset
+module _ {d : Dialect} {file : Bytes} {s e k : List ℕ} {o : Result (Option Cursor) Report} (v : NextRecordSound d None file [] Top 0 s e k o) where
+  pub begins : {x : Cursor} → o ≡ Ok (Some x) → HeaderRead d file x.columns x.state x.offset
   begins q =
       let n = came v q in
       record {
         h = n.rec;
         first = n.found;
         count = n.after.headed;
-        rest = whole_rest d Reading file ∙ n.rest;
+        rest = whole_rest d None file ∙ n.rest;
         few = n.few;
         inside = n.inside;
         under = n.under;
       }
 
   module _ (room : ℕ) (s₀ e₀ k₀ : List ℕ) (t : Report) (r : Answer) (re : r ≡ reader_answer (api.no_answer t)) where
-    pub no_header : o ≡ outcomes.Refused t → Answered (answer_in d file room) r s₀ e₀ k₀ s₀ e₀ k₀
+    pub no_header : o ≡ Err t → Answered (answer_in d file room) r s₀ e₀ k₀ s₀ e₀ k₀
     no_header q =
         let a = at_fault v q in
         let p : answer_in d file room ≡ api.no_answer t
-        = ap (λ (g : Progress). api.read_answer g room) (whole_rest d Reading file ∙ a.rest) ∙ ap api.no_answer (sym a.report) in
+        = ap (λ (g : Progress). api.read_answer g room) (whole_rest d None file ∙ a.rest) ∙ ap api.no_answer (sym a.report) in
         refusing (answer_in d file room) t r s₀ e₀ k₀ s₀ e₀ k₀ p re refl refl refl
 
     -- an end without a record has no cells, by the definition
-    pub no_records : o ≡ outcomes.End → t ≡ refusal 0 → Answered (answer_in d file room) r s₀ e₀ k₀ s₀ e₀ k₀
+    pub no_records : o ≡ Ok None → t ≡ refusal 0 → Answered (answer_in d file room) r s₀ e₀ k₀ s₀ e₀ k₀
     no_records q te =
         let a = at_end v q in
         let p : answer_in d file room ≡ api.no_answer t
-        = ap (λ (g : Progress). api.read_answer g room) (whole_rest d Reading file ∙ a.rest)
+        = ap (λ (g : Progress). api.read_answer g room) (whole_rest d None file ∙ a.rest)
         ∙ ap (λ (l : List Rec). api.answered l (concat (rows l)) room) a.done ∙ ap api.no_answer (sym te) in
         refusing (answer_in d file room) t r s₀ e₀ k₀ s₀ e₀ k₀ p re refl refl refl
 

@@ -6,7 +6,7 @@ pub returns-then-room-length : goal.returns-then-room-length
 returns-then-room-length c =
     let a = c.args in
     let o = conversion_crowded a.d a.t a.file.now a.room.now c.measure.ensures _
-    c.in-Accepted.is c.if-room-length.true _ c.call_report.ensures _
+    c.in-Ok.is c.if-room-length.true _ c.call_report.ensures _
     c.refusal-then-room-length.ensures in
     record { value = o.answer; room_after = o.left }
 
@@ -14,13 +14,13 @@ pub write_records-requires : goal.write_records-requires
 write_records-requires c =
     let a = c.args in
     conversion_accepts a.d a.t a.file.now a.room.now c.measure.ensures _
-    c.in-Accepted.is c.if-room-length.false
+    c.in-Ok.is c.if-room-length.false
 
-pub returns-in-Refused : goal.returns-in-Refused
-returns-in-Refused c =
+pub returns-in-Err : goal.returns-in-Err
+returns-in-Err c =
     let a = c.args in
     let o = conversion_refused a.d a.t a.file.now a.room.now c.measure.ensures _
-    c.in-Refused.is _ c.refusal.ensures in
+    c.in-Err.is _ c.refusal.ensures in
     record { value = o.answer; room_after = o.left }
 
 pub shape_of-room : goal.shape_of-room
@@ -28,7 +28,7 @@ shape_of-room c =
     let a = c.args in
     long_filled a.d a.t a.file.now a.room.now
     (conversion_accepts a.d a.t a.file.now a.room.now c.measure.ensures _
-    c.in-Accepted.is c.if-room-length.false) _ c.write_records.ensures
+    c.in-Ok.is c.if-room-length.false) _ c.write_records.ensures
 
 pub returns-else-room-length : goal.returns-else-room-length
 returns-else-room-length c =
@@ -36,6 +36,6 @@ returns-else-room-length c =
     record {
       value =
           conversion_roomy a.d a.t a.file.now a.room.now c.measure.ensures _
-          c.in-Accepted.is c.if-room-length.false _ c.call_report-in-Accepted.ensures;
+          c.in-Ok.is c.if-room-length.false _ c.call_report-in-Ok.ensures;
       room_after = c.write_records.ensures;
     }

@@ -1,5 +1,6 @@
 use mathlib.Core.Path.{refl}
-use Rattle.file_cursor.proofs.Traversal.{by_fields, sets_out, walks_on, walk_bounds, walk_less, came, full_long, full_kept}
+use Rattle.std.proofs.lemmas.Result.{err_from_is_err_and}
+use Rattle.file_cursor.proofs.Traversal.{at_value, by_fields, sets_out, walks_on, walk_bounds, walk_less, came, full_long, full_kept}
 use Rattle.file_cursor.proofs.FastNext.{data_came}
 use Rattle.file_converter.proofs.Passes.{measured_all, measured_refused}
 use Rattle.file_converter.proofs.measure.Goals as goal
@@ -22,16 +23,16 @@ next_data_record-requires c =
     let b = walk_bounds inv.0 in
     record { from_in_bounds = b.0; done_le_from = b.1; long = full_long inv.1 }
 
-pub loop-v-smaller-in-Record : goal.loop-v-smaller-in-Record
-loop-v-smaller-in-Record c =
+pub loop-v-smaller-in-Some : goal.loop-v-smaller-in-Some
+loop-v-smaller-in-Some c =
     let inv = c.loop-v.invariant in
-    let r = data_came (c.next_data_record.ensures.fast_next_sound _ (by_fields inv.0.after)) c.in-Record.is in
+    let r = data_came (c.next_data_record.ensures.fast_next_sound _ (by_fields inv.0.after)) c.in-Some.is in
     walk_less inv.0 r.next
 
-pub loop-v-preserved-in-Record : goal.loop-v-preserved-in-Record
-loop-v-preserved-in-Record c =
+pub loop-v-preserved-in-Some : goal.loop-v-preserved-in-Some
+loop-v-preserved-in-Some c =
     let inv = c.loop-v.invariant in
-    let r = data_came (c.next_data_record.ensures.fast_next_sound _ (by_fields inv.0.after)) c.in-Record.is in
+    let r = data_came (c.next_data_record.ensures.fast_next_sound _ (by_fields inv.0.after)) c.in-Some.is in
     (walks_on inv.0 r.next, full_kept inv.1 c.next_data_record.ensures.same_lengths)
 
 pub slice_bounds-next_record-end : goal.slice_bounds-next_record-end
@@ -39,13 +40,13 @@ slice_bounds-next_record-end c =
     let inv = c.loop-v.invariant in
     (full_kept inv.1 c.next_data_record.ensures.same_lengths).at_starts
 
-pub slice_bounds-next_record-end-in-Fallback : goal.slice_bounds-next_record-end-in-Fallback
-slice_bounds-next_record-end-in-Fallback c =
+pub slice_bounds-next_record-end-in-None : goal.slice_bounds-next_record-end-in-None
+slice_bounds-next_record-end-in-None c =
     let inv = c.loop-v.invariant in
     (full_kept inv.1 c.next_data_record.ensures.same_lengths).at_ends
 
-pub slice_bounds-next_record-end-in-Fallback-2 : goal.slice_bounds-next_record-end-in-Fallback-2
-slice_bounds-next_record-end-in-Fallback-2 c =
+pub slice_bounds-next_record-end-in-None-2 : goal.slice_bounds-next_record-end-in-None-2
+slice_bounds-next_record-end-in-None-2 c =
     let inv = c.loop-v.invariant in
     (full_kept inv.1 c.next_data_record.ensures.same_lengths).at_kinds
 
@@ -58,21 +59,22 @@ next_record-requires c =
 pub loop-v-smaller : goal.loop-v-smaller
 loop-v-smaller c =
     let inv = c.loop-v.invariant in
-    let n = came (c.next_record.ensures.next_record_sound _ inv.0.after) c.in-Record-next_record.is in
+    let n = came (c.next_record.ensures.next_record_sound _ inv.0.after) (at_value c.in_ok-v-in-None.was c.in-Some-2.is) in
     walk_less inv.0 n
 
 pub loop-v-preserved : goal.loop-v-preserved
 loop-v-preserved c =
     let inv = c.loop-v.invariant in
-    let n = came (c.next_record.ensures.next_record_sound _ inv.0.after) c.in-Record-next_record.is in
+    let n = came (c.next_record.ensures.next_record_sound _ inv.0.after) (at_value c.in_ok-v-in-None.was c.in-Some-2.is) in
     (walks_on inv.0 n, full_kept (full_kept inv.1 c.next_data_record.ensures.same_lengths) c.next_record.ensures.same_lengths)
 
-pub returns-in-End : goal.returns-in-End
-returns-in-End c =
+pub returns-in-None-2 : goal.returns-in-None-2
+returns-in-None-2 c =
     let inv = c.loop-v.invariant in
-    measured_all inv.0 (c.next_record.ensures.next_record_sound _ inv.0.after) c.in-End.is
+    measured_all inv.0 (c.next_record.ensures.next_record_sound _ inv.0.after) (at_value c.in_ok-v-in-None.was c.in-None-2.is)
 
-pub returns-in-Refused : goal.returns-in-Refused
-returns-in-Refused c =
+pub returns-in_err-v-in-None : goal.returns-in_err-v-in-None
+returns-in_err-v-in-None c =
     let inv = c.loop-v.invariant in
-    measured_refused inv.0 (c.next_record.ensures.next_record_sound _ inv.0.after) c.in-Refused.is
+    let p = err_from_is_err_and c.from_residual.result c.from_residual.ensures.1 in
+    rw (p.1, p.2) (measured_refused inv.0 (c.next_record.ensures.next_record_sound _ inv.0.after) c.in_err-v-in-None.was)

@@ -1,19 +1,28 @@
 -- `file_cursor::check_record` meets its contract: the source's check result first, then the target's.
+use mathlib.Core.Path.{sym, ◌∙◌}
+use Rattle.std.proofs.lemmas.Result.{err_from_is_err_and}
 use Rattle.model.proofs.Tests.{impossible}
-use Rattle.file_cursor.proofs.RecordChecks.{source_checked, asked_reading, asked_both}
+use Rattle.file_cursor.proofs.RecordChecks.{source_checked, asked_faulty, asked_reading, asked_both}
 use Rattle.file_cursor.proofs.check_record.Goals as goal
 
 pub check_record-requires : goal.check_record-requires
 check_record-requires c = record { cells = c.requires.cells; clean_record = λ e. impossible e; written_bound = c.requires.written_bound }
 
-pub returns-in-Reading : goal.returns-in-Reading
-returns-in-Reading c =
+pub returns-in_err-check-in-None : goal.returns-in_err-check-in-None
+returns-in_err-check-in-None c =
     let a = c.args in
-    asked_reading a.d a.cursor _ _ (source_checked a.d _ a.cursor.done a.cursor.columns) a.aim _ c.in-Reading.is
-    c.check.ensures c.requires.written_bound
+    let p = err_from_is_err_and c.from_residual.result c.from_residual.ensures.1 in
+    rw (p.1, p.2)
+    (asked_faulty a.d a.cursor _ _ (source_checked a.d _ a.cursor.done a.cursor.columns) a.target _
+    (sym c.check.ensures ∙ c.in_err-check-in-None.was))
 
-pub returns-in-Into : goal.returns-in-Into
-returns-in-Into c =
+pub returns-in_ok-check-in-None : goal.returns-in_ok-check-in-None
+returns-in_ok-check-in-None c =
     let a = c.args in
-    asked_both a.d a.cursor _ _ (source_checked a.d _ a.cursor.done a.cursor.columns) a.aim _ _ c.in-Into.is
-    c.check_record.ensures.verdict_value c.check_record.ensures.length_value
+    asked_reading a.d a.cursor _ _ (source_checked a.d _ a.cursor.done a.cursor.columns) a.target c.in-None.is
+    (sym c.check.ensures ∙ c.in_ok-check-in-None.was) c.requires.written_bound
+
+pub returns-in-Some : goal.returns-in-Some
+returns-in-Some c =
+    let a = c.args in
+    asked_both a.d a.cursor _ _ (source_checked a.d _ a.cursor.done a.cursor.columns) a.target _ _ c.in-Some.is c.check_record.ensures

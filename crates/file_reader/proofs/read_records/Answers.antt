@@ -22,7 +22,7 @@ data_records-requires c =
 
 pub overflow_add-columns : goal.overflow_add-columns
 overflow_add-columns c =
-    let few = few_cells c.data_records.ensures c.in-Accepted.is in
+    let few = few_cells c.data_records.ensures c.in-Ok.is in
     let columns = c.requires.header_read.few in
     record { fits = omega arith }
 
@@ -30,7 +30,7 @@ pub returns-then-room-columns : goal.returns-then-room-columns
 returns-then-room-columns c =
     let kept = unchanged c.data_records.ensures in
     let o = data_crowded c.args.room c.requires.header_read c.data_records.ensures kept
-    c.in-Accepted.is c.if-room-columns.true _ c.call_report.ensures _
+    c.in-Ok.is c.if-room-columns.true _ c.call_report.ensures _
     c.refused-then-room-columns.ensures in
     record { value = o.answer; starts_after = o.at_starts; ends_after = o.at_ends; kinds_after = o.at_kinds }
 
@@ -58,40 +58,40 @@ pub offset_bounds-ends-columns : goal.offset_bounds-ends-columns
 offset_bounds-ends-columns c =
     record { fits = omega (arith, c.requires.header_read.few) }
 
-pub slice_bounds-data_records-count-in-Accepted : goal.slice_bounds-data_records-count-in-Accepted
-slice_bounds-data_records-count-in-Accepted c =
+pub slice_bounds-data_records-count-in-Ok : goal.slice_bounds-data_records-count-in-Ok
+slice_bounds-data_records-count-in-Ok c =
     let kept = unchanged c.data_records.ensures in
     let long : length c.scan_next.new.ends ≡ length c.args.ends.now = still _ _ c.scan_next.ensures.ends_after kept.1 in
     let room = c.requires.room_in_bounds.1 in
     let fits = c.if-room-columns.false in
     omega arith
 
-pub slice_bounds-data_records-start-in-Accepted : goal.slice_bounds-data_records-start-in-Accepted
-slice_bounds-data_records-start-in-Accepted c =
+pub slice_bounds-data_records-start-in-Ok : goal.slice_bounds-data_records-start-in-Ok
+slice_bounds-data_records-start-in-Ok c =
     let kept = unchanged c.data_records.ensures in
     let long : length c.scan_next.new.ends ≡ length c.args.ends.now = still _ _ c.scan_next.ensures.ends_after kept.1 in
     let room = c.requires.room_in_bounds.1 in
     let fits = c.if-room-columns.false in
     omega arith
 
-pub slice_bounds-data_records-count-in-Accepted-2 : goal.slice_bounds-data_records-count-in-Accepted-2
-slice_bounds-data_records-count-in-Accepted-2 c =
+pub slice_bounds-data_records-count-in-Ok-2 : goal.slice_bounds-data_records-count-in-Ok-2
+slice_bounds-data_records-count-in-Ok-2 c =
     let kept = unchanged c.data_records.ensures in
     let long : length c.scan_next.new.kinds ≡ length c.args.kinds.now = still _ _ c.scan_next.ensures.kinds_after kept.2 in
     let room = c.requires.room_in_bounds.2 in
     let fits = c.if-room-columns.false in
     omega arith
 
-pub slice_bounds-data_records-start-in-Accepted-2 : goal.slice_bounds-data_records-start-in-Accepted-2
-slice_bounds-data_records-start-in-Accepted-2 c =
+pub slice_bounds-data_records-start-in-Ok-2 : goal.slice_bounds-data_records-start-in-Ok-2
+slice_bounds-data_records-start-in-Ok-2 c =
     let kept = unchanged c.data_records.ensures in
     let long : length c.scan_next.new.kinds ≡ length c.args.kinds.now = still _ _ c.scan_next.ensures.kinds_after kept.2 in
     let room = c.requires.room_in_bounds.2 in
     let fits = c.if-room-columns.false in
     omega arith
 
-pub data_records-requires-in-Accepted : goal.data_records-requires-in-Accepted
-data_records-requires-in-Accepted c =
+pub data_records-requires-in-Ok : goal.data_records-requires-in-Ok
+data_records-requires-in-Ok c =
     let kept = unchanged c.data_records.ensures in
     let a = c.args in
     let q = c.requires in
@@ -108,40 +108,40 @@ data_records-requires-in-Accepted c =
 
 pub overflow_add-result : goal.overflow_add-result
 overflow_add-result c =
-    let few = few_cells c.data_records.ensures c.in-Accepted.is in
+    let few = few_cells c.data_records.ensures c.in-Ok.is in
     let columns = c.requires.header_read.few in
     record { fits = omega arith }
 
-pub returns-in-Refused : goal.returns-in-Refused
-returns-in-Refused c =
+pub returns-in-Err : goal.returns-in-Err
+returns-in-Err c =
     let kept = unchanged c.data_records.ensures in
-    let o = data_refused c.args.room c.requires.header_read c.data_records.ensures kept _ c.in-Refused.is _ c.refused.ensures in
+    let o = data_refused c.args.room c.requires.header_read c.data_records.ensures kept _ c.in-Err.is _ c.refused.ensures in
     record { value = o.answer; starts_after = o.at_starts; ends_after = o.at_ends; kinds_after = o.at_kinds }
 
 pub shape_of-starts-else-room-columns : goal.shape_of-starts-else-room-columns
 shape_of-starts-else-room-columns c =
     let kept = unchanged c.data_records.ensures in
-    let h = held_lengths c.data_records-in-Accepted.ensures.lists in
-    part_long c.args.columns c.scan_next.new.starts c.data_records-in-Accepted.new.starts h.0 ∙ still _ _ c.scan_next.ensures.starts_after kept.0
+    let h = held_lengths c.data_records-in-Ok.ensures.lists in
+    part_long c.args.columns c.scan_next.new.starts c.data_records-in-Ok.new.starts h.0 ∙ still _ _ c.scan_next.ensures.starts_after kept.0
 
 pub shape_of-ends-else-room-columns : goal.shape_of-ends-else-room-columns
 shape_of-ends-else-room-columns c =
     let kept = unchanged c.data_records.ensures in
-    let h = held_lengths c.data_records-in-Accepted.ensures.lists in
-    part_long c.args.columns c.scan_next.new.ends c.data_records-in-Accepted.new.ends h.1 ∙ still _ _ c.scan_next.ensures.ends_after kept.1
+    let h = held_lengths c.data_records-in-Ok.ensures.lists in
+    part_long c.args.columns c.scan_next.new.ends c.data_records-in-Ok.new.ends h.1 ∙ still _ _ c.scan_next.ensures.ends_after kept.1
 
 pub shape_of-kinds-else-room-columns : goal.shape_of-kinds-else-room-columns
 shape_of-kinds-else-room-columns c =
     let kept = unchanged c.data_records.ensures in
-    let h = held_lengths c.data_records-in-Accepted.ensures.lists in
-    part_long c.args.columns c.scan_next.new.kinds c.data_records-in-Accepted.new.kinds h.2 ∙ still _ _ c.scan_next.ensures.kinds_after kept.2
+    let h = held_lengths c.data_records-in-Ok.ensures.lists in
+    part_long c.args.columns c.scan_next.new.kinds c.data_records-in-Ok.new.kinds h.2 ∙ still _ _ c.scan_next.ensures.kinds_after kept.2
 
 pub returns-else-room-columns : goal.returns-else-room-columns
 returns-else-room-columns c =
     let kept = unchanged c.data_records.ensures in
     let n = c.scan_next.ensures in
     let o = data_roomy c.args.room c.requires.header_read c.data_records.ensures kept
-    c.in-Accepted.is c.requires.room_in_bounds
+    c.in-Ok.is c.requires.room_in_bounds
     c.if-room-columns.false n.starts_after n.ends_after n.kinds_after
-    c.data_records-in-Accepted.ensures _ c.call_report-in-Accepted.ensures in
+    c.data_records-in-Ok.ensures _ c.call_report-in-Ok.ensures in
     record { value = o.answer; starts_after = o.at_starts; ends_after = o.at_ends; kinds_after = o.at_kinds }

@@ -1,10 +1,11 @@
 -- A data record that passes its checks is the one that the cursor returns; all others fall back.
 use Prim.Native.Nat.{◌+◌, ◌≤◌}
 use native.Mathlib.Omega.{arith}
-use mathlib.Core.Path.{sym}
+use mathlib.Core.Path.{sym, ◌∙◌}
 use lib.ListN.{length}
 use lib.Seq.{length-take-le}
-use Rattle.file_cursor.proofs.RecordChecks.{ruled_sound}
+use Rattle.std.proofs.lemmas.Result.{IfOk-at_ok}
+use Rattle.file_cursor.proofs.RecordChecks.{ruled_sound, from_ok}
 use Rattle.file_cursor.specs.FastNext.{sound, unsure}
 use Rattle.file_cursor.proofs.fast.finish_record.Goals as goal
 
@@ -32,8 +33,8 @@ slice_bounds-check_record-end-3 c =
     let k : 64 ≤ length a.kinds.now = c.requires.long.at_kinds in
     sym (length-take-le a.cells a.kinds.now (omega arith))
 
-pub check_record-r-requires : goal.check_record-r-requires
-check_record-r-requires c =
+pub check_record-requires : goal.check_record-requires
+check_record-requires c =
     let q = c.requires in
     let m = c.if-cells-gt-MAX_COLUMNS.false in
     record { cells = q.cells m; clean_in = q.clean_in m; fact = (q.fact.0, q.fact.2) }
@@ -44,21 +45,22 @@ overflow_add-result c =
     let m : c.args.cursor.done ≤ 16777215 = c.requires.fact.1 in
     omega arith
 
-pub overflow_add-result-in-Ok : goal.overflow_add-result-in-Ok
-overflow_add-result-in-Ok c =
+pub overflow_add-result-2 : goal.overflow_add-result-2
+overflow_add-result-2 c =
     let a = c.args in
-    let f : a.cursor.written + c.check_record-r.result.length ≤ 16777215
-    = c.check_record-r.ensures.fits c.in-Ok.is in
+    let kept = from_ok _ (sym c.ok.ensures.value ∙ c.in_ok-length.was) in
+    let f : a.cursor.written + c.in_ok-length.length ≤ 16777215
+    = IfOk-at_ok (λ n. a.cursor.written + n ≤ 16777215) kept c.check_record.ensures.fits in
     omega arith
 
-pub returns-in-Err : goal.returns-in-Err
-returns-in-Err c = λ rs vs start y z. unsure
+pub returns-in_err-length : goal.returns-in_err-length
+returns-in_err-length c = λ rs vs start y z. rw c.from_residual.ensures unsure
 
-pub returns-in-Ok : goal.returns-in-Ok
-returns-in-Ok c =
+pub returns : goal.returns
+returns c =
     let a = c.args in
-    let kept = c.in-Ok.is in
+    let kept = from_ok _ (sym c.ok.ensures.value ∙ c.in_ok-length.was) in
     λ rs vs start y z.
     sound
-    (ruled_sound a.d a.aim a.file.now a.starts.now a.ends.now a.kinds.now a.cursor start a.cells a.state a.next rs vs y z
-    _ z.values c.if-cells-gt-MAX_COLUMNS.false _ c.check_record-r.ensures kept)
+    (ruled_sound a.d a.target a.file.now a.starts.now a.ends.now a.kinds.now a.cursor start a.cells a.state a.next rs vs y z
+    _ z.values c.if-cells-gt-MAX_COLUMNS.false _ c.check_record.ensures _ kept)

@@ -14,7 +14,7 @@ pub finish_record-requires : goal.finish_record-requires
 finish_record-requires c =
     let q = c.requires in
     let t = c.scan.ensures in
-    let z = c.in-Record.is in
+    let z = c.in_ok-cells.was in
     let m = met t q.from_in_bounds.2 q.from_in_bounds.0 q.long z in
     let later = c.if-done-eq0.false in
     let under : c.args.done ≤ c.args.from = q.done_le_from.0 in
@@ -26,22 +26,25 @@ finish_record-requires c =
       fact = (later, omega arith, q.done_le_from.1);
     }
 
-pub returns-in-Fallback : goal.returns-in-Fallback
-returns-in-Fallback c =
+pub returns-in_err-cells : goal.returns-in_err-cells
+returns-in_err-cells c =
     let q = c.requires in
-    record { fast_next_sound = λ rs y. nothing; same_lengths = kept c.scan.ensures q.from_in_bounds.2 q.from_in_bounds.0 q.long }
+    record {
+      fast_next_sound = λ rs y. rw c.from_residual.ensures nothing;
+      same_lengths = kept c.scan.ensures q.from_in_bounds.2 q.from_in_bounds.0 q.long;
+    }
 
-pub returns-in-Record : goal.returns-in-Record
-returns-in-Record c =
+pub returns : goal.returns
+returns c =
     let q = c.requires in
     let a = c.args in
     let t = c.scan.ensures in
-    let z = c.in-Record.is in
+    let z = c.in_ok-cells.was in
     let m = met t q.from_in_bounds.2 q.from_in_bounds.0 q.long z in
     record {
       fast_next_sound =
           λ rs y.
-          tells t q.from_in_bounds.2 q.from_in_bounds.0 q.long a.aim rs a.done y.count c.if-done-eq0.false z
+          tells t q.from_in_bounds.2 q.from_in_bounds.0 q.long a.target rs a.done y.count c.if-done-eq0.false z
           (c.finish_record.ensures rs _ _ y (now_shown m _ (record_counts m refl)));
       same_lengths = kept t q.from_in_bounds.2 q.from_in_bounds.0 q.long;
     }
