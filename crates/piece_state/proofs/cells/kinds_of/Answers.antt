@@ -49,7 +49,7 @@ pub bounds-kinds-k : goal.bounds-kinds-k
 bounds-kinds-k c = kind_fits c.loop-k.invariant c.loop-k-test.true
 
 pub loop-k-preserved : goal.loop-k-preserved
-loop-k-preserved c = sorted c.loop-k.invariant c.loop-k-test.true (c.kind_number.ensures ∙ ap kind_number c.kind_of.ensures)
+loop-k-preserved c = sorted c.loop-k.invariant c.loop-k-test.true (c.from.ensures ∙ ap kind_number c.kind_of.ensures)
 
 pub shape_of-kinds : goal.shape_of-kinds
 shape_of-kinds c = c.loop-k.invariant.kinds_go.long
