@@ -13,7 +13,7 @@ use Rattle.model.specs.rules.Report.{refusal}
 use Rattle.model.specs.rules.Records.{Read}
 use Rattle.model.specs.rules.Ledger.{Call, bytes_of, room_of, too_small}
 use Rattle.model.specs.laws.Machine.{ConverterStage, taking, faulted, ended, answer_at, stage_after}
-use Rattle.piece_state.specs.Checks.{check_between, check_named, check_now, CallCheck, StageEncoded, reports_taking, reports_faulted, reports_ended, CallCheckSound}
+use Rattle.piece_state.specs.Checks.{check_between, check_named, check_now, StageEncoded, reports_taking, reports_faulted, reports_ended, CallCheckSound}
 use Rattle.piece_state.specs.Checks.{means_refused, means_taken, ChecksMean}
 
 -- ---- dialects
