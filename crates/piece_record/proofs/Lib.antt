@@ -1,1 +1,2 @@
 pub mod BufferedCells
+pub mod Checked

@@ -46,10 +46,12 @@ fn finish(
 {
     let header = p.records == 0;
     let clean = record_writer::clean::is_clean_record(d, s, starts, ends, header);
-    let length = record_target::check_record(
+    let length = match record_target::check_record(
         d, t, s, starts, ends, kinds, header, clean, p.columns, p.written,
-    )
-    .map_err(RecordError::Refused)?;
+    ) {
+        Ok(length) => length,
+        Err(e) => return Err(RecordError::Refused(e)),
+    };
     if out.len() - o < length {
         return Err(RecordError::Invalid);
     }
@@ -75,12 +77,10 @@ fn holds_ed(s: &[u8]) -> bool
     ensures { result ≡ false → HoldsNoEd s.now }
 {
     let mut found = false;
-    let mut i = 0;
-    while i < s.len() {
-        if s[i] == 0xED {
+    for &b in s {
+        if b == 0xED {
             found = true;
         }
-        i += 1;
     }
     found
 }
@@ -90,17 +90,10 @@ fn is_ed_followed(s: &[u8]) -> bool
     ensures ed_followed { result ≡ true → EdFollowed s.now }
     ensures value { EdFollowed s.now → result ≡ true }
 {
-    let mut i = 1;
-    while i < s.len() {
-        if s[i - 1] == 0xED {
-            if s[i] < 0x80 {
-                return false;
-            }
-            if 0x9F < s[i] {
-                return false;
-            }
+    for i in 1..s.len() {
+        if s[i - 1] == 0xED && !matches!(s[i], 0x80..=0x9F) {
+            return false;
         }
-        i += 1;
     }
     true
 }
@@ -109,11 +102,10 @@ fn is_ed_followed(s: &[u8]) -> bool
 fn last_end(ends: &[usize]) -> usize
     ensures { result ≡ end_of 0 ends.now }
 {
-    let n = ends.len();
-    if n == 0 {
-        return 0;
+    match ends {
+        [.., end] => *end,
+        [] => 0,
     }
-    ends[n - 1]
 }
 
 // Whether the cells of a record can be written.
@@ -123,10 +115,7 @@ fn may_be_written(bytes: &[u8], ends: &[usize]) -> bool
     ensures value { EdFollowed (take (end_of 0 ends.now) bytes.now) → result ≡ true }
 {
     let to = last_end(ends);
-    if holds_ed(&bytes[..to]) {
-        return is_ed_followed(&bytes[..to]);
-    }
-    true
+    !holds_ed(&bytes[..to]) || is_ed_followed(&bytes[..to])
 }
 
 // A record whose cells lie in the buffered bytes, with their starts.

@@ -1,10 +1,10 @@
 -- The checks of a saved state, as propositions: what a true result gives, and that a state with these facts passes.
-use Prim.Native.Nat.{ℕ, suc, ◌+◌, ◌-◌, ◌<◌, ◌≤◌}
+use Prim.Native.Nat.{ℕ, ◌+◌, ◌<◌, ◌≤◌}
 use native.Mathlib.Omega.{arith}
-use mathlib.Core.Path.{◌≡◌, refl, ap, ◌∙◌}
+use mathlib.Core.Path.{◌≡◌, refl, ◌∙◌}
 use mathlib.Core.Bool.{Bool, true, false, ◌&&◌}
 use mathlib.Core.List.{List, [], ◌∷◌}
-use lib.ListN.{length, take, drop, get_or}
+use lib.ListN.{length, drop, drop_of_length-le, get_or}
 use lib.Dec.{leb}
 use borrow.Author.Tests.{eq-eqb, le-leb, lt-leb, leb-true}
 use Rattle.model.specs.rules.Base.{◌is◌}
@@ -28,30 +28,21 @@ is_ordered at (e ∷ es) fill (order_next h hs) = rw (le-leb at e h) (is_ordered
 
 -- ---- the loop
 
--- the ends from index k up to n are still to be checked
-abbrev pub order_from : (ends : List ℕ) → (n fill k at : ℕ) → Bool
-order_from ends n fill k at = in_order at (take (n - k) (drop k ends)) fill
-
-module _ (ends : List ℕ) (n fill k at : ℕ) where
-  pub order_begins : in_order 0 (take n ends) fill ≡ order_from ends n fill 0 0
-  order_begins = let m : n ≡ n - 0 = omega arith in ap (λ (i : ℕ). in_order 0 (take i ends) fill) m
-
-  module _ (h : k < n) (l : n ≤ length ends) where
-    order_at : order_from ends n fill k at ≡ (leb at (get_or ends k 0) && order_from ends n fill (k + 1) (get_or ends k 0))
+module _ (es : List ℕ) (fill k at : ℕ) where
+  module _ (h : k < length es) where
+    order_at : in_order at (drop k es) fill ≡ (leb at (get_or es k 0) && in_order (get_or es k 0) (drop (k + 1) es) fill)
     unfolding in_order
-    order_at =
-        let m : n - k ≡ suc (n - (k + 1)) = omega arith in
-        rw (m, drop_next ends k (k + 1) (omega arith) refl)
+    order_at = rw (drop_next es k (k + 1) h refl)
 
-    pub order_breaks : get_or ends k 0 < at → order_from ends n fill k at ≡ false
-    order_breaks b = order_at ∙ rw (lt-leb at (get_or ends k 0) b)
+    pub order_breaks : get_or es k 0 < at → in_order at (drop k es) fill ≡ false
+    order_breaks b = order_at ∙ rw (lt-leb at (get_or es k 0) b)
 
-    pub order_goes_on : at ≤ get_or ends k 0 → order_from ends n fill k at ≡ order_from ends n fill (k + 1) (get_or ends k 0)
-    order_goes_on b = order_at ∙ rw (le-leb at (get_or ends k 0) b)
+    pub order_goes_on : at ≤ get_or es k 0 → in_order at (drop k es) fill ≡ in_order (get_or es k 0) (drop (k + 1) es) fill
+    order_goes_on b = order_at ∙ rw (le-leb at (get_or es k 0) b)
 
-  pub order_ends : n ≤ k → order_from ends n fill k at ≡ leb at fill
+  pub order_ends : length es ≤ k → in_order at (drop k es) fill ≡ leb at fill
   unfolding in_order
-  order_ends h = let z : n - k ≡ 0 = omega arith in rw z
+  order_ends h = rw (drop_of_length-le es h)
 
 -- ---- cells are buffered only in a record
 

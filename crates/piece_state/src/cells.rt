@@ -29,14 +29,10 @@ pub fn buffer_cells(
     ensures bytes_after { bytes.new ≡ written bytes.old fill (buffered_bytes (raw_cells_at piece.now starts.now stops.now from n)) }
     ensures ends_after { ends.new ≡ written ends.old from (buffered_ends fill (raw_cells_at piece.now starts.now stops.now from n)) }
 {
-    let mut k = from;
     let mut at = fill;
-    while k < n {
-        let start = starts[k];
-        let stop = stops[k];
-        at = buffer::copy(bytes, at, &piece[start..stop]);
+    for k in from..n {
+        at = buffer::copy(bytes, at, &piece[starts[k]..stops[k]]);
         ends[k] = at;
-        k += 1;
     }
     at
 }
@@ -55,12 +51,10 @@ pub fn starts_of(ends: &[usize], n: usize, starts: &mut [usize])
     requires { (n ≤ length ends.now) × (n ≤ length starts.old) }
     ensures { starts.new ≡ over (take n (0 ∷ ends.now)) starts.old }
 {
-    let mut k = 0;
     let mut at = 0;
-    while k < n {
+    for k in 0..n {
         starts[k] = at;
         at = ends[k];
-        k += 1;
     }
 }
 
@@ -77,11 +71,7 @@ pub fn kinds_of(
     requires n_in_bounds { n ≤ length kinds.old }
     ensures { kinds.new ≡ over (kinds_at d bytes.now starts.now ends.now n) kinds.old }
 {
-    let mut k = 0;
-    while k < n {
-        let start = starts[k];
-        let end = ends[k];
-        kinds[k] = u8::from(cell::kind_of(d, &bytes[start..end]));
-        k += 1;
+    for k in 0..n {
+        kinds[k] = u8::from(cell::kind_of(d, &bytes[starts[k]..ends[k]]));
     }
 }

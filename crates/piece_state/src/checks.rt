@@ -27,10 +27,7 @@ fn check_between(
     if 0 < ended {
         return Err(codes::call_report(codes::WRONG_CALL));
     }
-    if codes::MAX_PIECE < piece {
-        return Err(codes::call_report(codes::NO_ROOM));
-    }
-    if room < codes::LEAST_OUTPUT {
+    if codes::MAX_PIECE < piece || room < codes::LEAST_OUTPUT {
         return Err(codes::call_report(codes::NO_ROOM));
     }
     Ok((d, t))
@@ -64,14 +61,12 @@ pub fn is_in_order(ends: &[usize], n: usize, fill: usize) -> bool
     requires { n ≤ length ends.now }
     ensures { result ≡ in_order 0 (take n ends.now) fill }
 {
-    let mut k = 0;
     let mut at = 0;
-    while k < n {
-        if ends[k] < at {
+    for &end in &ends[..n] {
+        if end < at {
             return false;
         }
-        at = ends[k];
-        k += 1;
+        at = end;
     }
     at <= fill
 }
@@ -80,33 +75,20 @@ pub fn is_in_order(ends: &[usize], n: usize, fill: usize) -> bool
 pub fn in_record(f: FileState) -> bool
     ensures { result ≡ in_record f }
 {
-    match f {
-        FileState::Top => false,
-        FileState::Begin => false,
-        FileState::Ended => false,
-        FileState::Bom1 => false,
-        FileState::Bom2 => false,
-        FileState::PlainBom1 => true,
-        FileState::PlainBom2 => true,
-        FileState::Comment(_) => false,
-        FileState::Blanks => false,
-        FileState::ExpectCell => true,
-        FileState::Inside(_) => true,
-        FileState::After => true,
-        FileState::Cr => true,
-    }
+    matches!(
+        f,
+        FileState::PlainBom1
+            | FileState::PlainBom2
+            | FileState::ExpectCell
+            | FileState::Inside(_)
+            | FileState::After
+            | FileState::Cr
+    )
 }
 
 // Whether cells are buffered only in a record: outside of one `size` may restart at 0, and would say nothing about what is buffered.
 pub fn is_buffered_in_record(p: Place) -> bool
     ensures { result ≡ buffered_in_record p }
 {
-    let state = p.state;
-    if in_record(state) {
-        return true;
-    }
-    if 0 < p.fill {
-        return false;
-    }
-    p.cells == 0
+    in_record(p.state) || (p.fill == 0 && p.cells == 0)
 }

@@ -1,7 +1,8 @@
 // Lexer states as numbers, so that a saved state is plain numbers. Every number decodes to some state, and the number of a state to that
-// state. Definitions: specs/Codes.antt. A new state needs a number of its own, and `state_back` of proofs/Codes.antt again.
+// state. Definitions: specs/Codes.antt. A new state needs a number of its own, and `state_back` of proofs/Codes.antt again. They are
+// functions, not `From`: the states are model's, and an impl for them would have to be there.
 ghost use Rattle.std.specs.Prelude.{◌≡◌};
-ghost use Rattle.piece_state.specs.Codes.{lead_number, lead_from, inner_number, inner_from, char_number, char_from, hex_number, hex_from, numeral_number, numeral_from, word_number, word_from, cell_number, fixed_cell, cell_from, state_number, fixed_state, state_from};
+ghost use Rattle.piece_state.specs.Codes.{lead_number, lead_from, inner_number, inner_from, char_number, char_from, hex_number, hex_from, numeral_number, numeral_from, word_number, word_from, cell_number, cell_from, state_number, state_from};
 
 use model::{Cell, Char, FileState, HexLeft, Inner, Lead, Numeral, Word};
 
@@ -25,28 +26,16 @@ fn lead_number(l: Lead) -> usize
 fn lead_of(n: usize) -> Lead
     ensures { result ≡ lead_from n }
 {
-    if n == 0 {
-        return Lead::C2ToDf;
+    match n {
+        0 => Lead::C2ToDf,
+        1 => Lead::E0,
+        2 => Lead::E1ToEc,
+        3 => Lead::Ed,
+        4 => Lead::EeToEf,
+        5 => Lead::F0,
+        6 => Lead::F1ToF3,
+        _ => Lead::F4,
     }
-    if n == 1 {
-        return Lead::E0;
-    }
-    if n == 2 {
-        return Lead::E1ToEc;
-    }
-    if n == 3 {
-        return Lead::Ed;
-    }
-    if n == 4 {
-        return Lead::EeToEf;
-    }
-    if n == 5 {
-        return Lead::F0;
-    }
-    if n == 6 {
-        return Lead::F1ToF3;
-    }
-    Lead::F4
 }
 
 fn inner_number(i: Inner) -> usize
@@ -62,13 +51,11 @@ fn inner_number(i: Inner) -> usize
 fn inner_of(n: usize) -> Inner
     ensures { result ≡ inner_from n }
 {
-    if n == 0 {
-        return Inner::Last;
+    match n {
+        0 => Inner::Last,
+        1 => Inner::LastTwo,
+        _ => Inner::Second(lead_of(n - 2)),
     }
-    if n == 1 {
-        return Inner::LastTwo;
-    }
-    Inner::Second(lead_of(n - 2))
 }
 
 fn char_number(t: Char) -> usize
@@ -83,10 +70,10 @@ fn char_number(t: Char) -> usize
 fn char_of(n: usize) -> Char
     ensures { result ≡ char_from n }
 {
-    if n == 0 {
-        return Char::Whole;
+    match n {
+        0 => Char::Whole,
+        _ => Char::Within(inner_of(n - 1)),
     }
-    Char::Within(inner_of(n - 1))
 }
 
 // ---- cells
@@ -105,16 +92,12 @@ fn hex_number(h: HexLeft) -> usize
 fn hex_of(n: usize) -> HexLeft
     ensures { result ≡ hex_from n }
 {
-    if n == 0 {
-        return HexLeft::Four;
+    match n {
+        0 => HexLeft::Four,
+        1 => HexLeft::Three,
+        2 => HexLeft::Two,
+        _ => HexLeft::One,
     }
-    if n == 1 {
-        return HexLeft::Three;
-    }
-    if n == 2 {
-        return HexLeft::Two;
-    }
-    HexLeft::One
 }
 
 fn numeral_number(m: Numeral) -> usize
@@ -135,28 +118,16 @@ fn numeral_number(m: Numeral) -> usize
 fn numeral_of(n: usize) -> Numeral
     ensures { result ≡ numeral_from n }
 {
-    if n == 0 {
-        return Numeral::Minus;
+    match n {
+        0 => Numeral::Minus,
+        1 => Numeral::Zero,
+        2 => Numeral::Integer,
+        3 => Numeral::Point,
+        4 => Numeral::Fraction,
+        5 => Numeral::E,
+        6 => Numeral::ESign,
+        _ => Numeral::Exponent,
     }
-    if n == 1 {
-        return Numeral::Zero;
-    }
-    if n == 2 {
-        return Numeral::Integer;
-    }
-    if n == 3 {
-        return Numeral::Point;
-    }
-    if n == 4 {
-        return Numeral::Fraction;
-    }
-    if n == 5 {
-        return Numeral::E;
-    }
-    if n == 6 {
-        return Numeral::ESign;
-    }
-    Numeral::Exponent
 }
 
 fn word_number(w: Word) -> usize
@@ -180,37 +151,19 @@ fn word_number(w: Word) -> usize
 fn word_of(n: usize) -> Word
     ensures { result ≡ word_from n }
 {
-    if n == 0 {
-        return Word::T;
+    match n {
+        0 => Word::T,
+        1 => Word::Tr,
+        2 => Word::Tru,
+        3 => Word::F,
+        4 => Word::Fa,
+        5 => Word::Fal,
+        6 => Word::Fals,
+        7 => Word::N,
+        8 => Word::Nu,
+        9 => Word::Nul,
+        _ => Word::Backslash,
     }
-    if n == 1 {
-        return Word::Tr;
-    }
-    if n == 2 {
-        return Word::Tru;
-    }
-    if n == 3 {
-        return Word::F;
-    }
-    if n == 4 {
-        return Word::Fa;
-    }
-    if n == 5 {
-        return Word::Fal;
-    }
-    if n == 6 {
-        return Word::Fals;
-    }
-    if n == 7 {
-        return Word::N;
-    }
-    if n == 8 {
-        return Word::Nu;
-    }
-    if n == 9 {
-        return Word::Nul;
-    }
-    Word::Backslash
 }
 
 fn cell_number(c: Cell) -> usize
@@ -229,40 +182,20 @@ fn cell_number(c: Cell) -> usize
     }
 }
 
-fn fixed_cell(n: usize) -> Cell
-    ensures { result ≡ fixed_cell n }
-{
-    if n == 0 {
-        return Cell::Fresh;
-    }
-    if n == 1 {
-        return Cell::Closed;
-    }
-    if n == 2 {
-        return Cell::Escape;
-    }
-    Cell::Complete
-}
-
 fn cell_of(n: usize) -> Cell
     ensures { result ≡ cell_from n }
 {
-    if n < 16 {
-        return fixed_cell(n);
+    match n {
+        0 => Cell::Fresh,
+        1 => Cell::Closed,
+        2 => Cell::Escape,
+        3..16 => Cell::Complete,
+        16..32 => Cell::Quoted(char_of(n - 16)),
+        32..48 => Cell::Plain(char_of(n - 32)),
+        48..64 => Cell::Hex(hex_of(n - 48)),
+        64..80 => Cell::InNumber(numeral_of(n - 64)),
+        _ => Cell::InWord(word_of(n - 80)),
     }
-    if n < 32 {
-        return Cell::Quoted(char_of(n - 16));
-    }
-    if n < 48 {
-        return Cell::Plain(char_of(n - 32));
-    }
-    if n < 64 {
-        return Cell::Hex(hex_of(n - 48));
-    }
-    if n < 80 {
-        return Cell::InNumber(numeral_of(n - 64));
-    }
-    Cell::InWord(word_of(n - 80))
 }
 
 // ---- files
@@ -287,50 +220,22 @@ pub fn state_number(f: FileState) -> usize
     }
 }
 
-fn fixed_state(n: usize) -> FileState
-    ensures { result ≡ fixed_state n }
-{
-    if n == 0 {
-        return FileState::Top;
-    }
-    if n == 1 {
-        return FileState::Begin;
-    }
-    if n == 2 {
-        return FileState::Ended;
-    }
-    if n == 3 {
-        return FileState::Bom1;
-    }
-    if n == 4 {
-        return FileState::Bom2;
-    }
-    if n == 5 {
-        return FileState::PlainBom1;
-    }
-    if n == 6 {
-        return FileState::PlainBom2;
-    }
-    if n == 7 {
-        return FileState::Blanks;
-    }
-    if n == 8 {
-        return FileState::ExpectCell;
-    }
-    if n == 9 {
-        return FileState::After;
-    }
-    FileState::Cr
-}
-
 pub fn state_of(n: usize) -> FileState
     ensures { result ≡ state_from n }
 {
-    if n < 16 {
-        return fixed_state(n);
+    match n {
+        0 => FileState::Top,
+        1 => FileState::Begin,
+        2 => FileState::Ended,
+        3 => FileState::Bom1,
+        4 => FileState::Bom2,
+        5 => FileState::PlainBom1,
+        6 => FileState::PlainBom2,
+        7 => FileState::Blanks,
+        8 => FileState::ExpectCell,
+        9 => FileState::After,
+        10..16 => FileState::Cr,
+        16..32 => FileState::Comment(char_of(n - 16)),
+        _ => FileState::Inside(cell_of(n - 32)),
     }
-    if n < 32 {
-        return FileState::Comment(char_of(n - 16));
-    }
-    FileState::Inside(cell_of(n - 32))
 }

@@ -3,6 +3,7 @@ use Prim.Native.Nat.{ℕ, ◌+◌, ◌-◌, ◌≤◌, ◌<◌}
 use native.Mathlib.Omega.{arith}
 use mathlib.Core.Path.{◌≡◌, refl, sym, ap, subst, ◌∙◌}
 use mathlib.Core.Bool.{Bool, true}
+use Rattle.std.specs.Prelude.{Option, Some}
 use mathlib.Core.List.{List, [], ◌∷◌, map, map-map}
 use lib.ListN.{length, take, drop, length-map, length-drop}
 use lib.Seq.{length-take-le}
@@ -24,8 +25,7 @@ use Rattle.model.proofs.piece_laws.PlaceLaws.{stretches}
 use Rattle.record_scanner.specs.Parts.{Found, found_of, raw_starts, raw_ends, raw_kinds}
 use Rattle.record_scanner.specs.Stored.{stored_from}
 use Rattle.cell_fast.specs.Ends.{CleanIn}
-use Rattle.record_fast.specs.declared.FastScan.{FastScan}
-use Rattle.record_fast.specs.declared.FastScan.TheVariants.{Record}
+use Rattle.record_fast.specs.declared.FastRecord.{FastRecord}
 use Rattle.record_fast.specs.FastScan.{Clean, FastScanSound, is_found}
 use Rattle.record_fast.specs.CellLists.{LiesIn}
 use Rattle.cell_decoder.specs.declared.source.Source.TheVariants.{File}
@@ -77,6 +77,9 @@ between_fresh ends = refl
 
 -- ---- a record of the fast scan
 
+abbrev pub found_record : (start cells : ℕ) → FileState → (next : ℕ) → Bool → Option FastRecord
+found_record start cells g next clean = Some (record { start = start; cells = cells; state = g; next = next; clean = clean })
+
 module _ (d : Dialect) (limit : ℕ) (piece : Bytes) (i : ℕ) (f : FileState) (starts : Starts f) (inside : i ≤ length piece) where
   abbrev pub Here : ScanResult
   Here = scan d limit (fresh f 0 i) (drop i piece)
@@ -109,8 +112,8 @@ module _ (d : Dialect) (limit : ℕ) (piece : Bytes) (i : ℕ) (f : FileState) (
       all_lie d piece MAXRECORD (omega arith) cs (ends_whole (subst (PreservesTo d) e keeps)) (ends_stretches (subst (ScanResultIn piece) e lies))
       (ends_sized (subst SizedTo e sizes))
 
-  module _ {s₀ e₀ k₀ s e k : List ℕ} {q : FastScan} (told : FastScanSound d limit piece i f MAXCOLUMNS 0 s₀ e₀ k₀ s e k q)
-      (long : Scratch s₀ e₀ k₀) {start cells next : ℕ} {g : FileState} {clean : Bool} (z : q ≡ Record start cells g next clean) where
+  module _ {s₀ e₀ k₀ s e k : List ℕ} {q : Option FastRecord} (told : FastScanSound d limit piece i f MAXCOLUMNS 0 s₀ e₀ k₀ s e k q)
+      (long : Scratch s₀ e₀ k₀) {start cells next : ℕ} {g : FileState} {clean : Bool} (z : q ≡ found_record start cells g next clean) where
     -- the result of the scan, and the lists after it
     pub record Complete : Type 0 where
       pub found : CompletedAs Here start cells g next
@@ -123,9 +126,9 @@ module _ (d : Dialect) (limit : ℕ) (piece : Bytes) (i : ℕ) (f : FileState) (
       pub under : next ≤ limit
 
     pub complete : Complete
-    complete = go (subst (λ (x : FastScan). FastScanSound d limit piece i f MAXCOLUMNS 0 s₀ e₀ k₀ s e k x) z told)
+    complete = go (subst (λ (x : Option FastRecord). FastScanSound d limit piece i f MAXCOLUMNS 0 s₀ e₀ k₀ s e k x) z told)
       where
-        go : FastScanSound d limit piece i f MAXCOLUMNS 0 s₀ e₀ k₀ s e k (Record start cells g next clean) → Complete
+        go : FastScanSound d limit piece i f MAXCOLUMNS 0 s₀ e₀ k₀ s e k (found_record start cells g next clean) → Complete
         go (is_found cs h b y c) =
             let a : CompletedAs Here start cells g next = completed_as Here start cells g next (ap (λ (x : Found). x.answer) h) in
             let same : cs ≡ a.cs = sym (ap (λ (x : Found). x.cells) h) ∙ ap (λ (x : ScanResult). (found_of x).cells) a.came in

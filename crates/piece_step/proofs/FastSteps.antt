@@ -3,7 +3,7 @@ use Prim.Native.Nat.{ℕ, ◌+◌, ◌-◌, ◌≤◌}
 use native.Mathlib.Omega.{arith}
 use mathlib.Core.Path.{◌≡◌, refl, sym, ap, subst, ◌∙◌}
 use mathlib.Core.Bool.{Bool, false}
-use Rattle.std.specs.Prelude.{Some}
+use Rattle.std.specs.Prelude.{Option, Some}
 use mathlib.Core.List.{List, [], ◌∷◌, ◌++◌, map}
 use lib.ListN.{length, take, drop}
 use borrow.Author.Tests.{ne_eqb}
@@ -25,8 +25,7 @@ use Rattle.buffer.specs.Writes.{written}
 use Rattle.piece_state.specs.declared.place.Place.{Place}
 use Rattle.piece_state.specs.Sound.{order_end}
 use Rattle.piece_record.specs.Completion.{fault_at, text_at}
-use Rattle.record_fast.specs.declared.FastScan.{FastScan}
-use Rattle.record_fast.specs.declared.FastScan.TheVariants.{Record}
+use Rattle.record_fast.specs.declared.FastRecord.{FastRecord}
 use Rattle.record_fast.specs.FastScan.{FastScanSound}
 use Rattle.cell_decoder.specs.declared.source.Source.TheVariants.{File}
 use Rattle.cell_decoder.specs.Sources.{cells_in}
@@ -34,10 +33,10 @@ use Rattle.piece_step.specs.Invariant.{read_at, StateInvariant, place_after, buf
 use Rattle.piece_step.specs.Steps.{Scratch, InBounds}
 use Rattle.piece_step.proofs.StepOutcomes as turning
 use Rattle.piece_step.proofs.StepOutcomes.{all_cells, in_file, values_now, done_then, place_then, sound_reads, text_here, sound_holds}
-use Rattle.piece_step.specs.declared.fast.FastStep.{FastStep}
+use Rattle.piece_step.specs.declared.fast.Next.{Next}
 use Rattle.piece_step.specs.FastSteps.{FastStepReady, Starts, begins, ends, Between, FastStepWrites, at_next, not_found, FastStepInBounds, next_in_bounds}
 use Rattle.piece_step.specs.FastSteps.{nothing_in_bounds, FastStepSound, a_record, nothing}
-use Rattle.piece_step.proofs.FastCells.{Complete, complete, values_there}
+use Rattle.piece_step.proofs.FastCells.{found_record, Complete, complete, values_there}
 
 -- ---- nothing is buffered
 
@@ -74,9 +73,9 @@ text_at_lem : (t : Dialect) (p : Place) (vs : List Value) → (p.records ≡ 0 �
 text_at_lem t p vs l = rw (later p l)
 
 module _ (t : Dialect) {d : Dialect} {piece : Bytes} {n i : ℕ} {p : Place} {out : List ℕ} {o : ℕ} (ready : FastStepReady piece n i p out o)
-    (between : Between p) {s₀ e₀ k₀ s e kk : List ℕ} {q : FastScan}
+    (between : Between p) {s₀ e₀ k₀ s e kk : List ℕ} {q : Option FastRecord}
     (told : FastScanSound d (MAXFILE - n) piece i p.state MAXCOLUMNS 0 s₀ e₀ k₀ s e kk q)
-    (long : Scratch s₀ e₀ k₀) {start cells next : ℕ} {g : FileState} {clean : Bool} (z : q ≡ Record start cells g next clean) where
+    (long : Scratch s₀ e₀ k₀) {start cells next : ℕ} {g : FileState} {clean : Bool} (z : q ≡ found_record start cells g next clean) where
   under : n ≤ MAXFILE
   under = omega (arith, ready.at, ready.offset)
 
@@ -89,7 +88,7 @@ module _ (t : Dialect) {d : Dialect} {piece : Bytes} {n i : ℕ} {p : Place} {ou
   abbrev Cells-of : List Value
   Cells-of = cells_in (File d) piece (take cells s) (take cells e) (take cells kk)
 
-  pub writes_bounds : {out' : List ℕ} {r : FastStep} → FastStepWrites t p n next g cells Cells-of o out out' r → FastStepInBounds piece n i out out' r
+  pub writes_bounds : {out' : List ℕ} {r : Option Next} → FastStepWrites t p n next g cells Cells-of o out out' r → FastStepInBounds piece n i out out' r
   writes_bounds (not_found w) = nothing_in_bounds w
   writes_bounds (at_next {end = end} few a b room w y) =
       let f = target_sound (into t) false p.written Cells-of b in
@@ -129,7 +128,7 @@ module _ (t : Dialect) {d : Dialect} {piece : Bytes} {n i : ℕ} {p : Place} {ou
         (same_moved d k n (n + i) kept.0 at_end.found.cs)
 
     pub writes_turns :
-        {out' : List ℕ} {r : FastStep} → FastStepWrites t p n next g cells Cells-of o out out' r →
+        {out' : List ℕ} {r : Option Next} → FastStepWrites t p n next g cells Cells-of o out out' r →
         FastStepSound d (into t) piece i p bytes ends' done k o out out' r
     writes_turns (not_found w) = nothing
     writes_turns (at_next {end = end} few a b room w y) =

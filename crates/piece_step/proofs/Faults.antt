@@ -17,7 +17,7 @@ use Rattle.model.specs.laws.RoundTrips.{SameCells}
 use Rattle.model.proofs.Tests.{split}
 use Rattle.model.proofs.round_trip.Meanings.{place_free}
 use Rattle.piece_step.specs.Types.{Dialect, Target, Fault, CellCount, RepeatedName, HeaderKind, TooManyColumns, NoCells, LacksKind, LoneSurrogate, Clash}
-use Rattle.piece_step.specs.Types.{TextTooLong, OutputTooLong, CheckResult, Sound, Faulty}
+use Rattle.piece_step.specs.Types.{TextTooLong, OutputTooLong, CheckResult, Ok, Err}
 use Rattle.piece_state.specs.declared.place.Place.{Place}
 use Rattle.piece_step.specs.Invariant.{columns_of}
 use Rattle.piece_record.specs.Completion.{fault_at, text_at}
@@ -25,8 +25,8 @@ use Rattle.piece_record.specs.Completion.{fault_at, text_at}
 -- ---- the offset of a record's fault is its start
 
 data AtStart : CheckResult → Type 0 where
-  start_sound : AtStart Sound
-  start_fault : {e : Fault} → is_at_byte e ≡ false → AtStart (Faulty e)
+  start_sound : AtStart (Ok tt)
+  start_fault : {e : Fault} → is_at_byte e ≡ false → AtStart (Err e)
 
 when_start : (b : Bool) (e : Fault) → is_at_byte e ≡ false → AtStart (when b e)
 unfolding when
@@ -85,11 +85,11 @@ unfolding fault_at
 at_start d t p vs =
     or_start (split AtStart (p.records is 0) (λ _. header_start d vs) λ _. data_start p.columns vs) (target_start t (p.records is 0) p.written vs)
 
-start_of : {v : CheckResult} (e : Fault) → AtStart v → v ≡ Faulty e → is_at_byte e ≡ false
+start_of : {v : CheckResult} (e : Fault) → AtStart v → v ≡ Err e → is_at_byte e ≡ false
 start_of e start_sound q = let z : ◌≡◌ {A = ℕ} 0 1 = cc in absurd (omega arith)
 start_of e (start_fault {e = x} a) q = let z : x ≡ e = cc in rw (sym z) a
 
-pub fault_start : (d : Dialect) (t : Target) (p : Place) (vs : List Value) (e : Fault) → fault_at d t p vs ≡ Faulty e → is_at_byte e ≡ false
+pub fault_start : (d : Dialect) (t : Target) (p : Place) (vs : List Value) (e : Fault) → fault_at d t p vs ≡ Err e → is_at_byte e ≡ false
 fault_start d t p vs e q = start_of e (at_start d t p vs) q
 
 pub report_start :

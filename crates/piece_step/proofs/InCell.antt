@@ -11,7 +11,7 @@ use Rattle.model.specs.declared.Dialect.{Dialect}
 use Rattle.model.specs.declared.Cell.{Cell}
 use Rattle.model.specs.declared.FileState.{FileState}
 use Rattle.model.specs.declared.FileState.TheVariants.{Inside}
-use Rattle.std.specs.Prelude.{Ok}
+use Rattle.std.specs.Prelude.{Some, Ok}
 use Rattle.model.specs.declared.ByteRole.TheVariants.{OfCell}
 use Rattle.model.specs.rules.Base.{Bytes, choose◌then◌else◌}
 use Rattle.model.specs.rules.Dialect.{quote_of}
@@ -25,7 +25,6 @@ use Rattle.buffer.proofs.WriteProgress.{written_nil}
 use Rattle.swar.specs.Words.{ordinary, all_pass, AllIn}
 use Rattle.swar.proofs.Spans.{in_whole}
 use Rattle.cell_scanner.specs.Run.{run_stop}
-use Rattle.cell_scanner.specs.declared.RunStop.TheVariants.{At}
 use Rattle.cell_scanner.proofs.Runs.{run_step}
 use Rattle.record_scanner.specs.declared.record_state.RecordState.{RecordState}
 use Rattle.piece_state.specs.declared.place.Place.{Place}
@@ -34,11 +33,10 @@ use Rattle.piece_step.specs.Steps.{InBounds, StepReady, StepInBounds, pending_bo
 use Rattle.piece_step.proofs.ScanAnswers.{PendingAs}
 use Rattle.piece_step.proofs.Steps.{here, bounds_pended, turns_pended_on}
 use Rattle.piece_step.specs.InCell.{Fits, InCellSound, all_buffered_lem}
-use Rattle.piece_step.specs.declared.in_cell.InCellStep.TheVariants as told
 
 -- ---- a scan over ordinary bytes
 
-module _ (d : Dialect) (limit : ℕ) (c : Cell) (q : ℕ) (stops : run_stop d c ≡ At q) where
+module _ (d : Dialect) (limit : ℕ) (c : Cell) (q : ℕ) (stops : run_stop d c ≡ Some q) where
   -- the scan after them
   abbrev behind : Scan → Bytes → Scan
   behind s xs =
@@ -72,7 +70,7 @@ module _ (d : Dialect) (limit : ℕ) (c : Cell) (q : ℕ) (stops : run_stop d c 
 
 module _ (d : Dialect) (piece : Bytes) (p : Place) (bytes ends : List ℕ) (bounds : InBounds p ends) (long_bytes : length bytes ≡ MAXRECORD)
     (long_ends : length ends ≡ MAXCOLUMNS)
-    (c : Cell) (q : ℕ) (state : p.state ≡ Inside c) (stops : run_stop d c ≡ At q) (all : AllIn (ordinary (quote_of d) q) piece 0 (length piece))
+    (c : Cell) (q : ℕ) (state : p.state ≡ Inside c) (stops : run_stop d c ≡ Some q) (all : AllIn (ordinary (quote_of d) q) piece 0 (length piece))
     (fits : Fits p (length piece))
     (bytes' : List ℕ) (kept : bytes' ≡ written bytes p.fill piece) where
   ready : (out : List ℕ) → StepReady piece p.offset 0 p bytes ends out 0
@@ -119,7 +117,7 @@ module _ (d : Dialect) (piece : Bytes) (p : Place) (bytes ends : List ℕ) (boun
   keeps =
       buffered_on (omega (arith, fits.columns)) (rw (written_nil bytes p.fill, add-zero p.fill) kept) (sym (written_nil ends p.cells)) place_is
 
-  told_kept : InCellSound d piece p bytes ends bytes' (told.Buffered (place_behind (p.fill + length piece)))
+  told_kept : InCellSound d piece p bytes ends bytes' (Some (place_behind (p.fill + length piece)))
   unfolding pended
   told_kept = all_buffered_lem (within (bounds_pended d piece p.offset 0 p bytes ends [] 0 (ready []) _ _ (pended []) [] bytes' ends _ keeps (λ _. refl)))
       λ t done k out hold. turns_pended_on d piece p.offset 0 p bytes ends out 0 (ready out) _ _ (pended out) [] bytes' ends _ keeps
@@ -128,5 +126,5 @@ module _ (d : Dialect) (piece : Bytes) (p : Place) (bytes ends : List ℕ) (boun
       within : {q : Place} → StepInBounds piece p.offset 0 ends [] (NeedInput q) → InBounds q ends
       within (pending_bounds x) = x
 
-  pub piece_kept : {fill : ℕ} → fill ≡ p.fill + length piece → InCellSound d piece p bytes ends bytes' (told.Buffered (place_behind fill))
+  pub piece_kept : {fill : ℕ} → fill ≡ p.fill + length piece → InCellSound d piece p bytes ends bytes' (Some (place_behind fill))
   piece_kept e = rw e told_kept

@@ -16,18 +16,18 @@ use Rattle.model.proofs.cell_laws.CellRuns.{all_snoc}
 use Rattle.model.proofs.file_laws.FileSteps as steps
 use Rattle.model.proofs.file_laws.FileSteps.{Rests, Around, Grown, Free, Starts, Opens, Leaves, Transition, step_transition}
 use Rattle.piece_step.specs.Types.{Dialect, FileState, Top, Begin, Ended, Bom1, Bom2, PlainBom1, PlainBom2, Comment, Blanks, ExpectCell, Inside, After}
-use Rattle.piece_step.specs.Types.{Cr, Outside, Passed, OfCell, Between, Tail, Ends, Step, To, Reject, ByteFault, Fault}
+use Rattle.piece_step.specs.Types.{Cr, Outside, Passed, OfCell, Between, Tail, Ends, Step, Ok, Err, ByteFault, Fault}
 use Rattle.piece_step.specs.Invariant.{in_cell}
 
 -- ---- a byte of a record
 
 -- it stays in the record or ends it, and where a cell is open it belongs to the cell or closes it
 pub data Proceeds (f : FileState) : Step → Type 0 where
-  go_fault : {e : ByteFault} → Proceeds f (Reject e)
-  go_cell : {g : FileState} → in_cell g ≡ true → Proceeds f (To g OfCell)
-  go_between : {g : FileState} {k : Bool} → in_record g ≡ true → (in_cell f ≡ true → k ≡ true) → Proceeds f (To g (Between k))
-  go_tail : {g : FileState} {k : Bool} → in_record g ≡ true → (in_cell f ≡ true → k ≡ true) → Proceeds f (To g (Tail k))
-  go_ends : {g : FileState} {k : Bool} → (in_cell f ≡ true → k ≡ true) → Proceeds f (To g (Ends k))
+  go_fault : {e : ByteFault} → Proceeds f (Err e)
+  go_cell : {g : FileState} → in_cell g ≡ true → Proceeds f (Ok (g, OfCell))
+  go_between : {g : FileState} {k : Bool} → in_record g ≡ true → (in_cell f ≡ true → k ≡ true) → Proceeds f (Ok (g, (Between k)))
+  go_tail : {g : FileState} {k : Bool} → in_record g ≡ true → (in_cell f ≡ true → k ≡ true) → Proceeds f (Ok (g, (Tail k)))
+  go_ends : {g : FileState} {k : Bool} → (in_cell f ≡ true → k ≡ true) → Proceeds f (Ok (g, (Ends k)))
 
 pub cell_record : (f : FileState) → in_cell f ≡ true → in_record f ≡ true
 cell_record Top h = h
@@ -138,8 +138,8 @@ module _ (d : Dialect) (limit began : ℕ) where
       (s : Scan) (b : ℕ) (bs : Bytes) → Firsts bs → First began s → began ≤ s.offset → (x : Step) → Proceeds s.state x →
       FirstIn began (scan_step s b bs (λ s'. scan d limit s' bs) x)
   unfolding scan_step
-  step_first s b bs ih i l (Reject e) go_fault = first_fails
-  step_first s b bs ih i l (To g OfCell) (go_cell h) = ih _ (grown i) (omega arith)
+  step_first s b bs ih i l (Err e) go_fault = first_fails
+  step_first s b bs ih i l (Ok (g, OfCell)) (go_cell h) = ih _ (grown i) (omega arith)
     where
       grown :
           First began s →
@@ -154,11 +154,11 @@ module _ (d : Dialect) (limit began : ℕ) where
           })
       grown (still_open u o c) = still_open h o c
       grown (then_closed u o c) = then_closed (cell_record g h) o c
-  step_first s b bs ih i l (To g (Between k)) (go_between h u) = ih _ (then_closed h (omega arith) (closes_first k s i u)) (omega arith)
-  step_first s b bs ih i l (To g (Tail k)) (go_tail h u) = ih _ (then_closed h (omega arith) (closes_first k s i u)) (omega arith)
-  step_first s b bs ih i l (To g (Ends k)) (go_ends u) = first_completes (closes_first k s i u)
-  step_first s b bs ih i l (To g Outside) z = elim z [ ]
-  step_first s b bs ih i l (To g Passed) z = elim z [ ]
+  step_first s b bs ih i l (Ok (g, (Between k))) (go_between h u) = ih _ (then_closed h (omega arith) (closes_first k s i u)) (omega arith)
+  step_first s b bs ih i l (Ok (g, (Tail k))) (go_tail h u) = ih _ (then_closed h (omega arith) (closes_first k s i u)) (omega arith)
+  step_first s b bs ih i l (Ok (g, (Ends k))) (go_ends u) = first_completes (closes_first k s i u)
+  step_first s b bs ih i l (Ok (g, Outside)) z = elim z [ ]
+  step_first s b bs ih i l (Ok (g, Passed)) z = elim z [ ]
 
   firsts : (bs : Bytes) → Firsts bs
   unfolding scan
@@ -202,22 +202,22 @@ module _ (d : Dialect) (limit base : ℕ) where
       (s : Scan) (b : ℕ) (bs : Bytes) → Grow bs → base + (bytes_in s.cells + length s.raw) ≤ s.size → (x : Step) → Proceeds s.state x →
       Grew base (scan_step s b bs (λ s'. scan d limit s' bs) x)
   unfolding scan_step bytes_in
-  step_grew s b bs ih l (Reject e) go_fault = grew_fails
-  step_grew s b bs ih l (To g OfCell) (go_cell h) =
+  step_grew s b bs ih l (Err e) go_fault = grew_fails
+  step_grew s b bs ih l (Ok (g, OfCell)) (go_cell h) =
       let e : length (s.raw ++ (b ∷ [])) ≡ length s.raw + 1 = length-append s.raw (b ∷ []) in
       let m : base + (bytes_in s.cells + length (s.raw ++ (b ∷ []))) ≤ suc s.size = omega arith in
       ih _ (cell_record g h) m
-  step_grew s b bs ih l (To g (Between k)) (go_between h u) =
+  step_grew s b bs ih l (Ok (g, (Between k))) (go_between h u) =
       let c : base + bytes_in (closing_raw k s) ≤ s.size = closing_grew base k s l in
       let m : base + (bytes_in (closing_raw k s) + 0) ≤ suc s.size = omega arith in
       ih _ h m
-  step_grew s b bs ih l (To g (Tail k)) (go_tail h u) =
+  step_grew s b bs ih l (Ok (g, (Tail k))) (go_tail h u) =
       let c : base + bytes_in (closing_raw k s) ≤ s.size = closing_grew base k s l in
       let m : base + (bytes_in (closing_raw k s) + 0) ≤ s.size = omega arith in
       ih _ h m
-  step_grew s b bs ih l (To g (Ends k)) (go_ends u) = grew_completes (closing_grew base k s l)
-  step_grew s b bs ih l (To g Outside) z = elim z [ ]
-  step_grew s b bs ih l (To g Passed) z = elim z [ ]
+  step_grew s b bs ih l (Ok (g, (Ends k))) (go_ends u) = grew_completes (closing_grew base k s l)
+  step_grew s b bs ih l (Ok (g, Outside)) z = elim z [ ]
+  step_grew s b bs ih l (Ok (g, Passed)) z = elim z [ ]
 
   grow : (bs : Bytes) → Grow bs
   unfolding scan

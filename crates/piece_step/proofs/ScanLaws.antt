@@ -20,7 +20,7 @@ use Rattle.model.proofs.cell_laws.Cells as cell
 use Rattle.model.proofs.cell_laws.Cells.{cell_at, Closes, Fits, step_fits}
 use Rattle.model.proofs.file_laws.FileSteps as steps
 use Rattle.model.proofs.file_laws.FileSteps.{Starts, Transition, step_transition}
-use Rattle.piece_step.specs.Types.{Dialect, Fresh, FileState, Outside, Passed, OfCell, Between, Tail, Ends, Step, To, Reject, Fault}
+use Rattle.piece_step.specs.Types.{Dialect, Fresh, FileState, Outside, Passed, OfCell, Between, Tail, Ends, Step, Ok, Err, Fault}
 use Rattle.piece_step.specs.Invariant.{Open, in_cell_lem, no_bytes, IsWhole}
 use Rattle.piece_step.proofs.OpenCells.{cell_record, grown_cell, opens_record, starts_not}
 
@@ -61,21 +61,21 @@ module _ (d : Dialect) (limit : ℕ) where
       (s : Scan) (b : ℕ) (bs : Bytes) → Keep bs → Preserves d s → (x : Step) → Transition d s.state b x → Fits d (cell_at s.state) b x →
       PreservesTo d (scan_step s b bs (λ s'. scan d limit s' bs) x)
   unfolding scan_step
-  step_keeps s b bs ih z (Reject e) (steps.refuses t) y = preserves_fails
-  step_keeps s b bs ih z (To f Outside) (steps.outside t a r) (cell.leaves e) =
+  step_keeps s b bs ih z (Err e) (steps.refuses t) y = preserves_fails
+  step_keeps s b bs ih z (Ok (f, Outside)) (steps.outside t a r) (cell.leaves e) =
       ih _ (record { runs = rw e here; whole = all_none; opens = no_bytes refl; holds = nothing_current refl refl })
-  step_keeps s b bs ih z (To f Passed) (steps.passes t a r) (cell.passes e) =
+  step_keeps s b bs ih z (Ok (f, Passed)) (steps.passes t a r) (cell.passes e) =
       ih _ (record { runs = rw e here; whole = all_none; opens = no_bytes refl; holds = nothing_current refl refl })
-  step_keeps s b bs ih z (To f OfCell) (steps.adds t n h g i q) (cell.adds e) =
+  step_keeps s b bs ih z (Ok (f, OfCell)) (steps.adds t n h g i q) (cell.adds e) =
       ih _ (record { runs = snoc b z.runs e; whole = z.whole; opens = in_cell_lem (grown_cell g); holds = current (cell_record f (grown_cell g)) })
-  step_keeps s b bs ih z (To f (Between k)) (steps.blanks t n e c) (cell.parts y w) =
+  step_keeps s b bs ih z (Ok (f, (Between k))) (steps.blanks t n e c) (cell.parts y w) =
       ih _ (record { runs = rw y here; whole = closing_whole k s z w; opens = no_bytes refl; holds = nothing_current refl (before_none s e z.holds) })
-  step_keeps s b bs ih z (To f (Between k)) (steps.parts t n l o) (cell.parts y w) =
+  step_keeps s b bs ih z (Ok (f, (Between k))) (steps.parts t n l o) (cell.parts y w) =
       ih _ (record { runs = rw y here; whole = closing_whole k s z w; opens = no_bytes refl; holds = current (opens_record o) })
-  step_keeps s b bs ih z (To f (Tail k)) (steps.turns t p l) (cell.turns y w) =
+  step_keeps s b bs ih z (Ok (f, (Tail k))) (steps.turns t p l) (cell.turns y w) =
       ih _ (record { runs = rw y here; whole = closing_whole k s z w; opens = no_bytes refl; holds = current refl })
-  step_keeps s b bs ih z (To f (Ends k)) (steps.ends t p l g) (cell.completes y w) = preserves_completes (closing_whole k s z w) y
-  step_keeps s b bs ih z (To f (Ends k)) (steps.ends_cr t e p) (cell.completes y w) = preserves_completes (closing_whole k s z w) y
+  step_keeps s b bs ih z (Ok (f, (Ends k))) (steps.ends t p l g) (cell.completes y w) = preserves_completes (closing_whole k s z w) y
+  step_keeps s b bs ih z (Ok (f, (Ends k))) (steps.ends_cr t e p) (cell.completes y w) = preserves_completes (closing_whole k s z w) y
 
   keep : (bs : Bytes) → Keep bs
   unfolding scan
@@ -117,25 +117,25 @@ module _ (d : Dialect) (began limit : ℕ) where
       (s : Scan) (b : ℕ) (bs : Bytes) → Goes-in bs → Within began limit s → suc s.offset ≤ limit → (x : Step) →
       WithinTo began limit (scan_step s b bs (λ s'. scan d limit s' bs) x)
   unfolding scan_step
-  step_within s b bs ih z l (Reject e) = within_fails z
-  step_within s b bs ih z l (To f Outside) =
+  step_within s b bs ih z l (Err e) = within_fails z
+  step_within s b bs ih z l (Ok (f, Outside)) =
       let q : began + length s.cells ≤ s.offset = z.few in
       let g : s.start ≤ s.offset = z.started in
       ih _ (record { under = l; few = omega arith; started = omega arith })
-  step_within s b bs ih z l (To f Passed) =
+  step_within s b bs ih z l (Ok (f, Passed)) =
       let q : began + length s.cells ≤ s.offset = z.few in
       ih _ (record { under = l; few = omega arith; started = omega arith })
-  step_within s b bs ih z l (To f OfCell) =
+  step_within s b bs ih z l (Ok (f, OfCell)) =
       let q : began + length s.cells ≤ s.offset = z.few in
       let g : s.start ≤ s.offset = z.started in
       ih _ (record { under = l; few = omega arith; started = omega arith })
-  step_within s b bs ih z l (To f (Between k)) =
+  step_within s b bs ih z l (Ok (f, (Between k))) =
       let g : s.start ≤ s.offset = z.started in
       ih _ (record { under = l; few = closing_few began k s z.few; started = omega arith })
-  step_within s b bs ih z l (To f (Tail k)) =
+  step_within s b bs ih z l (Ok (f, (Tail k))) =
       let g : s.start ≤ s.offset = z.started in
       ih _ (record { under = l; few = closing_few began k s z.few; started = omega arith })
-  step_within s b bs ih z l (To f (Ends k)) = within_completes z l (closing_few began k s z.few)
+  step_within s b bs ih z l (Ok (f, (Ends k))) = within_completes z l (closing_few began k s z.few)
 
   go_in : (bs : Bytes) → Goes-in bs
   unfolding scan
@@ -158,13 +158,13 @@ module _ (d : Dialect) (limit : ℕ) where
   step_faults :
       (s : Scan) (b : ℕ) (bs : Bytes) → ((s : Scan) → FaultsAt (scan d limit s bs)) → (x : Step) → FaultsAt (scan_step s b bs (λ s'. scan d limit s' bs) x)
   unfolding scan_step
-  step_faults s b bs ih (Reject e) = faults_fails refl
-  step_faults s b bs ih (To f Outside) = ih _
-  step_faults s b bs ih (To f Passed) = ih _
-  step_faults s b bs ih (To f OfCell) = ih _
-  step_faults s b bs ih (To f (Between k)) = ih _
-  step_faults s b bs ih (To f (Tail k)) = ih _
-  step_faults s b bs ih (To f (Ends k)) = faults_completes
+  step_faults s b bs ih (Err e) = faults_fails refl
+  step_faults s b bs ih (Ok (f, Outside)) = ih _
+  step_faults s b bs ih (Ok (f, Passed)) = ih _
+  step_faults s b bs ih (Ok (f, OfCell)) = ih _
+  step_faults s b bs ih (Ok (f, (Between k))) = ih _
+  step_faults s b bs ih (Ok (f, (Tail k))) = ih _
+  step_faults s b bs ih (Ok (f, (Ends k))) = faults_completes
 
   pub scan_faults : (bs : Bytes) (s : Scan) → FaultsAt (scan d limit s bs)
   unfolding scan

@@ -29,7 +29,7 @@ use Rattle.model.proofs.round_trip.Meanings.{same_length}
 use Rattle.model.specs.rules.Api.{slice}
 use Rattle.model.proofs.cell_laws.Cells.{cell_at}
 use Rattle.piece_state.specs.Sound.{at_start}
-use Rattle.piece_step.specs.Types.{Dialect, Target, Fresh, FileState, Fault, Sound, Faulty}
+use Rattle.piece_step.specs.Types.{Dialect, Target, Fresh, FileState, Fault, Ok, Err}
 use Rattle.piece_state.specs.declared.place.Place.{Place}
 use Rattle.piece_step.specs.Invariant.{no_bytes, IsWhole, scan_at, read_at, columns_of, Shown, StateInvariant, columns_with, place_after, buffered_none}
 use Rattle.piece_step.specs.Invariant.{start_from, place_pending}
@@ -276,7 +276,7 @@ module _ (u : Step) where
         fault_here = fault_of d t p done h.records h.columns h.written ws values_now same
 
         -- it has a fault
-        module _ (x : Fault) (q : fault_at d t p ws ≡ Faulty x) where
+        module _ (x : Fault) (q : fault_at d t p ws ≡ Err x) where
           pub faulty_reads : read_on ≡ stopped x (read_of d done (in_file s))
           faulty_reads = completes_on ∙ (completing d (Some t) done (in_file s) (all_cells cs) f (n + next) left).faulty x (sym fault_here ∙ q)
 
@@ -286,7 +286,7 @@ module _ (u : Step) where
               ∙ ap (report (number_of x) (p.records + 1) (column_of x)) (start_from_lem p k n i s.start h.starts)
 
         -- it has no fault
-        module _ (q : fault_at d t p ws ≡ Sound) where
+        module _ (q : fault_at d t p ws ≡ Ok tt) where
           abbrev pub place_then : Place
           place_then = place_after p (length ws) (length (text_at t p ws)) f (n + next)
 

@@ -30,12 +30,11 @@ use Rattle.piece_state.proofs.CurrentRecord.{shown_are, shown_lie}
 use Rattle.record_scanner.specs.Stored.{stored_from}
 use Rattle.record_scanner.specs.Parts.{found_of, current_of, raw_starts, raw_ends}
 use Rattle.piece_state.specs.declared.place.Place.{Place}
-use Rattle.piece_step.specs.Types.{Dialect, Target, FileState, Outside, Passed, OfCell, Between, Tail, Ends, Step, To, Reject, Fault, TooManyColumns}
-use Rattle.piece_step.specs.Types.{CheckResult, Sound, Faulty}
-use Rattle.piece_record.specs.declared.RecordResult.{RecordResult}
-use Rattle.piece_record.specs.declared.RecordResult.TheVariants.{Written, Refused, Invalid}
+use Rattle.piece_step.specs.Types.{Dialect, Target, FileState, Outside, Passed, OfCell, Between, Tail, Ends, Step, Ok, Err, Fault, TooManyColumns}
+use Rattle.piece_step.specs.Types.{CheckResult, Ok, Err}
+use Rattle.piece_record.specs.declared.RecordError.TheVariants.{Refused, Invalid}
 use Rattle.piece_step.specs.Invariant.{scan_at, read_at, Shown, StateInvariant, place_after, buffered_none, start_from, place_pending}
-use Rattle.piece_record.specs.Completion.{fault_at, text_at, FinishSound, is_written, is_refused, has_no_room, CompleteSound, not_encoded, ruled, buffered_values}
+use Rattle.piece_record.specs.Completion.{fault_at, text_at, FinishSound, is_written, is_refused, has_no_room, CompleteSound, not_encoded, ruled, buffered_values, RecordResult}
 use Rattle.piece_step.specs.declared.PieceStep.TheVariants.{Failed, NeedInput}
 use Rattle.piece_step.specs.Steps.{InBounds, Lists, RecordCompleted, too_many, from_buffered, place_at_piece_end, RecordBuffered, too_many_yet, buffered_on}
 use Rattle.piece_step.specs.Steps.{StepReady, step_after, Fitting, StepInBounds, next_bounds, pending_bounds, stopped_bounds, nowhere_bounds}
@@ -66,13 +65,13 @@ pub same_self : (vs : List Value) → SameCells vs vs
 same_self [] = no_cells
 same_self (v ∷ vs) = and_cell (record { kind = refl; content = refl }) (same_self vs)
 
-pub too_many_fault : (d : Dialect) (t : Target) (p : Place) (ws : List Value) → MAXCOLUMNS < length ws → fault_at d t p ws ≡ Faulty TooManyColumns
+pub too_many_fault : (d : Dialect) (t : Target) (p : Place) (ws : List Value) → MAXCOLUMNS < length ws → fault_at d t p ws ≡ Err TooManyColumns
 unfolding fault_at header_fault data_fault when ◌or_else◌
 too_many_fault d t p ws h =
-    split (λ (v : CheckResult). (v or_else target_fault t (p.records is 0) p.written ws) ≡ Faulty TooManyColumns) (p.records is 0)
+    split (λ (v : CheckResult). (v or_else target_fault t (p.records is 0) p.written ws) ≡ Err TooManyColumns) (p.records is 0)
     (λ _. rw (lt-ltb MAXCOLUMNS (length ws) h)) λ _. rw (lt-ltb MAXCOLUMNS (length ws) h)
 
-pub sound_fits : (d : Dialect) (t : Target) (p : Place) (ws : List Value) → fault_at d t p ws ≡ Sound → p.written + length (text_at t p ws) ≤ MAXFILE
+pub sound_fits : (d : Dialect) (t : Target) (p : Place) (ws : List Value) → fault_at d t p ws ≡ Ok tt → p.written + length (text_at t p ws) ≤ MAXFILE
 unfolding fault_at
 sound_fits d t p ws e =
     let s = else_sound (choose p.records is 0 then header_fault d ws else data_fault p.columns ws) (target_fault t (p.records is 0) p.written ws) e in
@@ -82,12 +81,12 @@ sound_fits d t p ws e =
 finish_fits :
     (d : Dialect) (t : Target) (p : Place) (ws : List Value) (o : ℕ) (out out' : List ℕ) (r : RecordResult) →
     FinishSound (fault_at d t p ws) (text_at t p ws) o out out' r → Fitting p o r
-finish_fits d t p ws o out out' (Written end) (is_written v l w e) =
+finish_fits d t p ws o out out' (Ok end) (is_written v l w e) =
     let f : p.written + length (text_at t p ws) ≤ MAXFILE = sound_fits d t p ws v in (omega arith, omega arith)
-finish_fits d t p ws o out out' (Refused x) (is_refused v w) = tt
-finish_fits d t p ws o out out' Invalid (has_no_room v l w) = tt
+finish_fits d t p ws o out out' (Err (Refused x)) (is_refused v w) = tt
+finish_fits d t p ws o out out' (Err Invalid) (has_no_room v l w) = tt
 
-finish_room : (v : CheckResult) (text : Bytes) (o : ℕ) (out out' : List ℕ) (end : ℕ) → FinishSound v text o out out' (Written end) → end ≤ length out
+finish_room : (v : CheckResult) (text : Bytes) (o : ℕ) (out out' : List ℕ) (end : ℕ) → FinishSound v text o out out' (Ok end) → end ≤ length out
 finish_room v text o out out' end (is_written x l w e) = omega arith
 
 -- ---- a scan continues
@@ -105,13 +104,13 @@ module _ (d : Dialect) (limit i : ℕ) where
       (s : Scan) (b : ℕ) (bs : Bytes) → ((s : Scan) → i ≤ s.offset → Behind i (scan d limit s bs)) → i ≤ s.offset → (x : Step) →
       Behind i (scan_step s b bs (λ s'. scan d limit s' bs) x)
   unfolding scan_step
-  step_behind s b bs ih l (Reject e) = behind_fails l
-  step_behind s b bs ih l (To f Outside) = ih _ (omega arith)
-  step_behind s b bs ih l (To f Passed) = ih _ (omega arith)
-  step_behind s b bs ih l (To f OfCell) = ih _ (omega arith)
-  step_behind s b bs ih l (To f (Between k)) = ih _ (omega arith)
-  step_behind s b bs ih l (To f (Tail k)) = ih _ (omega arith)
-  step_behind s b bs ih l (To f (Ends k)) = behind_completes l
+  step_behind s b bs ih l (Err e) = behind_fails l
+  step_behind s b bs ih l (Ok (f, Outside)) = ih _ (omega arith)
+  step_behind s b bs ih l (Ok (f, Passed)) = ih _ (omega arith)
+  step_behind s b bs ih l (Ok (f, OfCell)) = ih _ (omega arith)
+  step_behind s b bs ih l (Ok (f, (Between k))) = ih _ (omega arith)
+  step_behind s b bs ih l (Ok (f, (Tail k))) = ih _ (omega arith)
+  step_behind s b bs ih l (Ok (f, (Ends k))) = behind_completes l
 
   scan_behind : (bs : Bytes) (s : Scan) → i ≤ s.offset → Behind i (scan d limit s bs)
   unfolding scan
@@ -206,13 +205,13 @@ module _ (d : Dialect) (piece : Bytes) (n i : ℕ) (p : Place) (bytes ends out :
           go (too_many h e x) = by e tt
           go (from_buffered h x y z) = ruling z
 
-      roomy : (end : ℕ) → r ≡ Written end → end ≤ length out
+      roomy : (end : ℕ) → r ≡ Ok end → end ≤ length out
       roomy end e = go c
         where
-          not_refused : {A : Type 0} {x : Fault} → r ≡ Refused x → A
+          not_refused : {A : Type 0} {x : Fault} → r ≡ Err (Refused x) → A
           not_refused z = let y : ◌≡◌ {A = ℕ} 0 1 = cc in absurd (omega arith)
 
-          not_lost : {A : Type 0} → r ≡ Invalid → A
+          not_lost : {A : Type 0} → r ≡ Err Invalid → A
           not_lost z = let y : ◌≡◌ {A = ℕ} 0 1 = cc in absurd (omega arith)
 
           ruling : CompleteSound d t p bytes' (take (p.cells + cells) ends') o out out' r → end ≤ length out
@@ -229,7 +228,7 @@ module _ (d : Dialect) (piece : Bytes) (n i : ℕ) (p : Place) (bytes ends out :
       bounds_done = go r refl fits_done
         where
           go : (x : RecordResult) → r ≡ x → Fitting p o x → StepInBounds piece n i ends' out (step_after p n i start (p.cells + cells) f next o x)
-          go (Written end) e h =
+          go (Ok end) e h =
               let z : 0 ≤ 0 = omega arith in
               let b : InBounds (place_after p (p.cells + cells) (end - o) f (n + next)) ends' =
               record {
@@ -243,8 +242,8 @@ module _ (d : Dialect) (piece : Bytes) (n i : ℕ) (p : Place) (bytes ends out :
                 between = λ _. (refl, refl);
               } in
               next_bounds b refl next_on in_piece.inside (roomy end e) (refl, refl)
-          go (Refused x) e h = stopped_bounds
-          go Invalid e h = nowhere_bounds
+          go (Err (Refused x)) e h = stopped_bounds
+          go (Err Invalid) e h = nowhere_bounds
 
       -- the position of the reader there
       module _ (same_cs : p.cells + cells ≤ MAXCOLUMNS → cs ≡ a.cs) (done : List Rec) (k : Buffered) (hold : StateInvariant d t p bytes ends done k) where
@@ -264,7 +263,7 @@ module _ (d : Dialect) (piece : Bytes) (n i : ℕ) (p : Place) (bytes ends out :
         refused :
             (x : Fault) (ws : List Value) →
             SameCells ws (values_now u hold ready.at under ready.inside a.s a.cs f next a.left a.came) →
-            fault_at d t p ws ≡ Faulty x → out' ≡ out → Then (Refused x)
+            fault_at d t p ws ≡ Err x → out' ≡ out → Then (Err (Refused x))
         refused x ws same q w =
             steps_stopped x (read_of d done (in_file u a.s))
             (faulty_reads u hold ready.at under ready.inside a.s a.cs f next a.left a.came ws same x q)
@@ -282,9 +281,9 @@ module _ (d : Dialect) (piece : Bytes) (n i : ℕ) (p : Place) (bytes ends out :
 
         written_on :
             (end : ℕ) (ws : List Value) → Spells →
-            SameCells ws (values_now u hold ready.at under ready.inside a.s a.cs f next a.left a.came) → fault_at d t p ws ≡ Sound →
+            SameCells ws (values_now u hold ready.at under ready.inside a.s a.cs f next a.left a.came) → fault_at d t p ws ≡ Ok tt →
             length ws ≡ p.cells + cells →
-            out' ≡ written out o (text_at t p ws) → end ≡ o + length (text_at t p ws) → Then (Written end)
+            out' ≡ written out o (text_at t p ws) → end ≡ o + length (text_at t p ws) → Then (Ok end)
         written_on end ws spelt same q m w e =
             let text = text_here u hold ready.at under ready.inside a.s a.cs f next a.left a.came ws same q in
             let long : length (text_at t p ws) ≡ end - o = omega arith in
@@ -305,7 +304,7 @@ module _ (d : Dialect) (piece : Bytes) (n i : ℕ) (p : Place) (bytes ends out :
 
         no_room :
             (ws : List Value) → SameCells ws (values_now u hold ready.at under ready.inside a.s a.cs f next a.left a.came) →
-            fault_at d t p ws ≡ Sound → length out < o + length (text_at t p ws) → Then Invalid
+            fault_at d t p ws ≡ Ok tt → length out < o + length (text_at t p ws) → Then (Err Invalid)
         no_room ws same q l =
             let text = text_here u hold ready.at under ready.inside a.s a.cs f next a.left a.came ws same q in
             steps_nowhere this _ next
@@ -317,9 +316,9 @@ module _ (d : Dialect) (piece : Bytes) (n i : ℕ) (p : Place) (bytes ends out :
             (x : RecordResult) (ws : List Value) → Spells →
             SameCells ws (values_now u hold ready.at under ready.inside a.s a.cs f next a.left a.came) →
             length ws ≡ p.cells + cells → FinishSound (fault_at d t p ws) (text_at t p ws) o out out' x → Then x
-        finishing (Written end) ws spelt same m (is_written v l w e) = written_on end ws spelt same v m w e
-        finishing (Refused x) ws spelt same m (is_refused v w) = refused x ws same v w
-        finishing Invalid ws spelt same m (has_no_room v l w) = no_room ws same v l
+        finishing (Ok end) ws spelt same m (is_written v l w e) = written_on end ws spelt same v m w e
+        finishing (Err (Refused x)) ws spelt same m (is_refused v w) = refused x ws same v w
+        finishing (Err Invalid) ws spelt same m (has_no_room v l w) = no_room ws same v l
 
         pub turns_done : StepSound d t piece i p done k o out bytes' ends' out' (step_after p n i start (p.cells + cells) f next o r)
         turns_done = go c

@@ -1,6 +1,6 @@
 -- The abstraction relation of the piece converter: which position of model's reader a place and the buffered cells represent.
 use Rattle.std.specs.Prelude.{ℕ, ◌+◌, ◌≤◌, ◌≡◌, Bool, true, false, List, [], ◌∷◌, ◌++◌, length, take}
-use Rattle.piece_step.specs.Types.{Dialect, Target, Fresh, WholeCell, FileState, Top, Begin, Ended, Bom1, Bom2, PlainBom1, PlainBom2, Comment, Blanks}
+use Rattle.piece_step.specs.Types.{Dialect, Target, Fresh, Ok, FileState, Top, Begin, Ended, Bom1, Bom2, PlainBom1, PlainBom2, Comment, Blanks}
 use Rattle.piece_step.specs.Types.{ExpectCell, Inside, After, Cr}
 use Rattle.model.specs.rules.Base.{choose◌then◌else◌, ◌is◌, Bytes}
 use Rattle.model.specs.rules.Cell.{Runs}
@@ -43,7 +43,7 @@ all_buffered k = buffered_bytes k.cells ++ k.raw
 
 -- a raw cell is whole
 abbrev pub IsWhole : Dialect → RawCell → Type 0
-IsWhole d c = validate_cell d c.bytes ≡ WholeCell
+IsWhole d c = validate_cell d c.bytes ≡ Ok tt
 
 -- ---- the position of the reader
 

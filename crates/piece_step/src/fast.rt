@@ -18,7 +18,6 @@ use cell_decoder::source::Source;
 use codes::{MAX_COLUMNS, MAX_FILE};
 use model::{Dialect, FileState};
 use piece_state::place::Place;
-use record_fast::FastRecord;
 use record_writer::line;
 
 // A record was written, up to `end` of the output. The next step begins at `place`, which is index `at` of the piece.
@@ -166,18 +165,11 @@ pub fn data_record(
     if !is_between(p) {
         return None;
     }
-    let f = p.state;
-    let FastRecord {
-        start: _,
-        cells,
-        state,
-        next,
-        clean,
-    } = record_fast::scan(
+    let r = record_fast::scan(
         d,
         piece,
         i,
-        f,
+        p.state,
         MAX_FILE - n,
         MAX_COLUMNS,
         0,
@@ -186,6 +178,6 @@ pub fn data_record(
         kinds,
     )?;
     finish_record(
-        d, t, piece, starts, stops, kinds, cells, state, next, clean, n, p, out, o,
+        d, t, piece, starts, stops, kinds, r.cells, r.state, r.next, r.clean, n, p, out, o,
     )
 }

@@ -1,11 +1,6 @@
 -- `piece_record::is_ed_followed` meets its contract. The invariant: each ED before the byte in front of i is followed.
-use Prim.Native.Nat.{◌-◌, ◌≤◌}
-use lib.ListN.{length}
 use Rattle.piece_record.proofs.BufferedCells.{FollowedTo}
 use Rattle.piece_record.proofs.is_ed_followed.Given as goal
 
 abbrev pub invariant-loop-i : goal.invariant-loop-i
-invariant-loop-i l = (1 ≤ l.i) × FollowedTo l.s l.i
-
-abbrev pub decreases-loop-i : goal.decreases-loop-i
-decreases-loop-i l = length l.s - l.i
+invariant-loop-i l = FollowedTo l.s l.i

@@ -1,4 +1,5 @@
 -- `piece_state::checks::check_between` meets its contract, by its tests.
+use mathlib.Core.Logic.{inl, inr}
 use Rattle.model.specs.rules.Base.{choose◌then◌else◌}
 use Rattle.model.proofs.Tests.{tests}
 use Rattle.piece_state.specs.Checks.{check_between}
@@ -14,11 +15,11 @@ returns-then-ended-gt0 c = search (tests, c.call_report.ensures)
 
 pub returns-then-piece-gt-MAX_PIECE : goal.returns-then-piece-gt-MAX_PIECE
 unfolding check_between choose◌then◌else◌
-returns-then-piece-gt-MAX_PIECE c = search (tests, c.call_report-then-piece-gt-MAX_PIECE.ensures)
-
-pub returns-then-room-lt-LEAST_OUTPUT : goal.returns-then-room-lt-LEAST_OUTPUT
-unfolding check_between choose◌then◌else◌
-returns-then-room-lt-LEAST_OUTPUT c = search (tests, c.call_report-then-room-lt-LEAST_OUTPUT.ensures)
+returns-then-piece-gt-MAX_PIECE c =
+    elim c.then-piece-gt-MAX_PIECE.either [
+      | inl long ↦ search (tests, c.call_report-then-piece-gt-MAX_PIECE.ensures)
+      | inr short ↦ search (tests, c.call_report-then-piece-gt-MAX_PIECE.ensures)
+    ]
 
 pub returns : goal.returns
 unfolding check_between choose◌then◌else◌

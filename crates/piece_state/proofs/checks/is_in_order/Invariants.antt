@@ -1,13 +1,8 @@
--- `piece_state::checks::is_in_order` meets its contract. The invariant: the check of all ends equals that of the ends from k on.
-use Prim.Native.Nat.{◌-◌, ◌≤◌}
+-- `piece_state::checks::is_in_order` meets its contract. The invariant: the check of all ends equals that of the ends from here on.
 use mathlib.Core.Path.{◌≡◌}
-use lib.ListN.{take}
+use lib.ListN.{take, drop}
 use Rattle.piece_state.specs.Sound.{in_order}
-use Rattle.piece_state.proofs.Soundness.{order_from}
 use Rattle.piece_state.proofs.checks.is_in_order.Given as goal
 
-abbrev pub invariant-loop-k : goal.invariant-loop-k
-invariant-loop-k l = (l.k ≤ l.n) × (in_order 0 (take l.n l.ends) l.fill ≡ order_from l.ends l.n l.fill l.k l.at)
-
-abbrev pub decreases-loop-k : goal.decreases-loop-k
-decreases-loop-k l = l.n - l.k
+abbrev pub invariant-loop-end : goal.invariant-loop-end
+invariant-loop-end l = in_order 0 (take l.n l.ends) l.fill ≡ in_order l.at (drop l.end-index (take l.n l.ends)) l.fill

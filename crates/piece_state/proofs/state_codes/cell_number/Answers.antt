@@ -1,8 +1,5 @@
 -- `piece_state::state_codes::cell_number` meets its contract.
-use Prim.Native.Nat.{ℕ, ◌+◌}
 use native.Mathlib.Omega.{arith}
-use mathlib.Core.Path.{sym, ap, ◌∙◌}
-use Rattle.piece_state.specs.Codes.{cell_number}
 use Rattle.piece_state.proofs.Codes.{char_small, hex_small, numeral_small, word_small}
 use Rattle.piece_state.proofs.state_codes.cell_number.Goals as goal
 
@@ -20,18 +17,3 @@ overflow_add-result-in-InNumber c = omega (arith, c.numeral_number.ensures, nume
 
 pub overflow_add-result-in-InWord : goal.overflow_add-result-in-InWord
 overflow_add-result-in-InWord c = omega (arith, c.word_number.ensures, word_small c.in-InWord.w)
-
-pub returns-in-Quoted : goal.returns-in-Quoted
-returns-in-Quoted c = ap (λ (n : ℕ). 16 + n) c.char_number.ensures ∙ sym (ap cell_number c.in-Quoted.is)
-
-pub returns-in-Plain : goal.returns-in-Plain
-returns-in-Plain c = ap (λ (n : ℕ). 32 + n) c.char_number-in-Plain.ensures ∙ sym (ap cell_number c.in-Plain.is)
-
-pub returns-in-Hex : goal.returns-in-Hex
-returns-in-Hex c = ap (λ (n : ℕ). 48 + n) c.hex_number.ensures ∙ sym (ap cell_number c.in-Hex.is)
-
-pub returns-in-InNumber : goal.returns-in-InNumber
-returns-in-InNumber c = ap (λ (n : ℕ). 64 + n) c.numeral_number.ensures ∙ sym (ap cell_number c.in-InNumber.is)
-
-pub returns-in-InWord : goal.returns-in-InWord
-returns-in-InWord c = ap (λ (n : ℕ). 80 + n) c.word_number.ensures ∙ sym (ap cell_number c.in-InWord.is)

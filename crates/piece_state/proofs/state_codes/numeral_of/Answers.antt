@@ -1,37 +1,37 @@
--- `piece_state::state_codes::numeral_of` meets its contract, by its tests.
+-- `piece_state::state_codes::numeral_of` meets its contract, by its arms.
 use Rattle.model.specs.rules.Base.{choose◌then◌else◌}
 use Rattle.model.proofs.Tests.{tests}
 use Rattle.piece_state.specs.Codes.{numeral_from}
 use Rattle.piece_state.proofs.state_codes.numeral_of.Goals as goal
 
-pub returns-then-n-eq0 : goal.returns-then-n-eq0
+pub returns-in-0 : goal.returns-in-0
 unfolding numeral_from choose◌then◌else◌
-returns-then-n-eq0 c = search tests
+returns-in-0 c = rw c.in-0.is
 
-pub returns-then-n-eq1 : goal.returns-then-n-eq1
+pub returns-in-1 : goal.returns-in-1
 unfolding numeral_from choose◌then◌else◌
-returns-then-n-eq1 c = search tests
+returns-in-1 c = rw c.in-1.is
 
-pub returns-then-n-eq2 : goal.returns-then-n-eq2
+pub returns-in-2 : goal.returns-in-2
 unfolding numeral_from choose◌then◌else◌
-returns-then-n-eq2 c = search tests
+returns-in-2 c = rw c.in-2.is
 
-pub returns-then-n-eq3 : goal.returns-then-n-eq3
+pub returns-in-3 : goal.returns-in-3
 unfolding numeral_from choose◌then◌else◌
-returns-then-n-eq3 c = search tests
+returns-in-3 c = rw c.in-3.is
 
-pub returns-then-n-eq4 : goal.returns-then-n-eq4
+pub returns-in-4 : goal.returns-in-4
 unfolding numeral_from choose◌then◌else◌
-returns-then-n-eq4 c = search tests
+returns-in-4 c = rw c.in-4.is
 
-pub returns-then-n-eq5 : goal.returns-then-n-eq5
+pub returns-in-5 : goal.returns-in-5
 unfolding numeral_from choose◌then◌else◌
-returns-then-n-eq5 c = search tests
+returns-in-5 c = rw c.in-5.is
 
-pub returns-then-n-eq6 : goal.returns-then-n-eq6
+pub returns-in-6 : goal.returns-in-6
 unfolding numeral_from choose◌then◌else◌
-returns-then-n-eq6 c = search tests
+returns-in-6 c = rw c.in-6.is
 
-pub returns : goal.returns
+pub returns-in_default : goal.returns-in_default
 unfolding numeral_from choose◌then◌else◌
-returns c = search tests
+returns-in_default c = search tests

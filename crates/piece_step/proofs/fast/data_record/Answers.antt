@@ -46,27 +46,27 @@ finish_record-requires c =
         long_stops = c.stops-1.given ∙ l.long_stops;
         long_kinds = c.kinds-1.given ∙ l.long_kinds;
       };
-      cells = cells_there _ _ _ _ _ b.state c.requires.fast_step_ready.inside c.scan.ensures c.requires.scratch c.in-Record.is;
-      clean_in = clean_there _ _ _ _ _ b.state c.requires.fast_step_ready.inside c.scan.ensures c.requires.scratch c.in-Record.is;
+      cells = cells_there _ _ _ _ _ b.state c.requires.fast_step_ready.inside c.scan.ensures c.requires.scratch c.in_ok-r.was;
+      clean_in = clean_there _ _ _ _ _ b.state c.requires.fast_step_ready.inside c.scan.ensures c.requires.scratch c.in_ok-r.was;
       written_bound = (
         r.before,
         omega arith,
         next_file c.args.t c.requires.fast_step_ready (c.is_between.ensures c.if-not-is_between.false)
-            c.scan.ensures c.requires.scratch c.in-Record.is,
+            c.scan.ensures c.requires.scratch c.in_ok-r.was,
         r.room,
       );
       fact = b.later;
     }
 
-pub returns-in-Fallback : goal.returns-in-Fallback
-returns-in-Fallback c = record { fast_step_in_bounds = nothing_in_bounds refl; by_index = λ bytes ends done k hold. nothing }
+pub returns-in_err-r : goal.returns-in_err-r
+returns-in_err-r c = rw c.from_residual.ensures (record { fast_step_in_bounds = nothing_in_bounds refl; by_index = λ bytes ends done k hold. nothing })
 
-pub returns-in-Record : goal.returns-in-Record
-returns-in-Record c =
+pub returns : goal.returns
+returns c =
     let w = c.finish_record.ensures in
     record {
       fast_step_in_bounds = writes_bounds c.args.t c.requires.fast_step_ready (c.is_between.ensures c.if-not-is_between.false) c.scan.ensures c.requires.scratch
-          c.in-Record.is w;
+          c.in_ok-r.was w;
       by_index = λ bytes ends done k hold. writes_turns c.args.t c.requires.fast_step_ready
-          (c.is_between.ensures c.if-not-is_between.false) c.scan.ensures c.requires.scratch c.in-Record.is hold w;
+          (c.is_between.ensures c.if-not-is_between.false) c.scan.ensures c.requires.scratch c.in_ok-r.was hold w;
     }

@@ -35,17 +35,12 @@ write_record-requires c =
     record { cells = c.requires.cells m; clean_in = c.requires.clean_in m; before_bound = (c.requires.written_bound.0, c.requires.written_bound.3) }
 
 pub overflow_sub-result : goal.overflow_sub-result
-overflow_sub-result c = (written_fits (put_to c.write_record.ensures c.in-Ok.is)).0
+overflow_sub-result c = (written_fits (put_to c.write_record.ensures c.in_ok-end.was)).0
 
-pub overflow_add-result-in-Ok-3 : goal.overflow_add-result-in-Ok-3
-overflow_add-result-in-Ok-3 c =
-    let l = (written_fits (put_to c.write_record.ensures c.in-Ok.is)).1 in
-    omega (arith, l)
+pub returns-in_err-end : goal.returns-in_err-end
+returns-in_err-end c = rw c.from_residual.ensures (not_found (put_nowhere c.write_record.ensures c.in_err-end.was))
 
-pub returns-in-Fallback : goal.returns-in-Fallback
-returns-in-Fallback c = not_found (put_nowhere c.write_record.ensures c.in-Fallback.is)
-
-pub returns-in-Ok : goal.returns-in-Ok
-returns-in-Ok c =
+pub returns : goal.returns
+returns c =
     written_place c.args.n c.args.next c.args.state c.args.cells c.requires.fact c.if-cells-gt-MAX_COLUMNS.false
-    (put_to c.write_record.ensures c.in-Ok.is)
+    (put_to c.write_record.ensures c.in_ok-end.was)

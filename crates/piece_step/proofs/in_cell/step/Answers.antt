@@ -12,8 +12,8 @@ returns-then-not-fits c = not_found refl
 pub returns-in_default : goal.returns-in_default
 returns-in_default c = not_found refl
 
-pub returns-in_default-run_stop : goal.returns-in_default-run_stop
-returns-in_default-run_stop c = not_found refl
+pub returns-in_err-q : goal.returns-in_err-q
+returns-in_err-q c = rw c.from_residual.ensures (not_found refl)
 
 pub returns-then-not-all_ordinary : goal.returns-then-not-all_ordinary
 returns-then-not-all_ordinary c = not_found refl
@@ -34,7 +34,7 @@ returns c =
     let a = c.args in
     let fits = c.fits.ensures c.if-not-fits.false in
     let state = c.in-Inside.is in
-    let stops = sym c.run_stop.ensures ∙ c.in-At.is in
+    let stops = sym c.run_stop.ensures ∙ c.in_ok-q.was in
     let all = c.all_ordinary.ensures c.if-not-all_ordinary.false in
     let kept = c.buffer_open-fill.ensures in
     piece_kept a.d a.piece.now a.p a.bytes.now a.ends.now c.requires.in_bounds c.requires.bytes_len.0 c.requires.bytes_len.1 _ _ state stops
