@@ -26,9 +26,8 @@ use Rattle.model.proofs.piece_laws.MachineLaws.{machine, unknown}
 use Rattle.model.proofs.Tests.{split_on, impossible}
 use Rattle.codes.specs.Named.{text_answer}
 use Rattle.codes.specs.declared.TextAnswer.{TextAnswer}
-use Rattle.piece_state.specs.Checks.{check_now, StageEncoded, CallCheckSound, means_refused, means_taken}
-use Rattle.piece_state.specs.declared.checks.CallCheck.{CallCheck}
-use Rattle.piece_state.specs.declared.checks.CallCheck.TheVariants as checks
+use Rattle.piece_state.specs.Checks.{CallCheck, check_now, StageEncoded, CallCheckSound, means_refused, means_taken}
+use Rattle.std.specs.Prelude.{Ok, Err}
 use Rattle.piece_state.proofs.CallChecks.{unknown_source, unknown_target, checks_mean}
 use Rattle.piece_step.specs.declared.CallResult as call-taken
 use Rattle.piece_step.specs.Invariant.{read_at}
@@ -97,7 +96,7 @@ record Anyhow (s : Converter) (c : Call) (out : List ℕ) (told : TextAnswer) (n
   within : told.length ≤ length out
   as_long : length out' ≡ length out
   dialects : (next.source ≡ s.source) × (next.target ≡ s.target)
-  refuses : (e : Report) → check_of s c ≡ checks.Refused e → (told ≡ text_answer (unwritten e)) × (next ≡ s) × (out' ≡ out)
+  refuses : (e : Report) → check_of s c ≡ Err e → (told ≡ text_answer (unwritten e)) × (next ≡ s) × (out' ≡ out)
 
 module _ (s : Converter) (c : Call) (out : List ℕ) (told : TextAnswer) (next : Converter) (out' : List ℕ) (g : Stepped s c out told next out') where
   -- the ledger's answer, and the next state has answered it
@@ -185,19 +184,19 @@ means s c m n d t w consumed p q h =
 
 source_unknown :
     (s : Converter) (c : Call) (m n : ℕ) (w : ConverterStage) (consumed : Bytes) → dialect_of m ≡ None → Models consumed m n w s →
-    check_of s c ≡ checks.Refused (refusal 11)
+    check_of s c ≡ Err (refusal 11)
 source_unknown s c m n w consumed p h =
     unknown_source s.source s.target s.fault s.ended (length (bytes_of c)) (room_of c) (ap dialect_of h.source ∙ p)
 
 target_unknown :
     (s : Converter) (c : Call) (m n : ℕ) (w : ConverterStage) (consumed : Bytes) → dialect_of n ≡ None → Models consumed m n w s →
-    check_of s c ≡ checks.Refused (refusal 11)
+    check_of s c ≡ Err (refusal 11)
 target_unknown s c m n w consumed q h =
     unknown_target s.source s.target s.fault s.ended (length (bytes_of c)) (room_of c) (ap dialect_of h.target ∙ q)
 
 -- ---- a call that a check refuses
 
-same_report : (x : CallCheck) (e f : Report) → x ≡ checks.Refused e → x ≡ checks.Refused f → e ≡ f
+same_report : (x : CallCheck) (e f : Report) → x ≡ Err e → x ≡ Err f → e ≡ f
 same_report x e f p q = cc
 
 -- the machine's answer, which leaves its stage as it is
@@ -206,16 +205,16 @@ record Refuses (d t : Dialect) (w : ConverterStage) (c : Call) (e : Report) : Ty
   by_check : checked_at w c ≡ true
   stays : stage_after d (into t) w c ≡ w
 
-refuses : {d t : Dialect} {w : ConverterStage} {c : Call} {x : CallCheck} (e : Report) → CallCheckSound d t w c x → x ≡ checks.Refused e → Refuses d t w c e
+refuses : {d t : Dialect} {w : ConverterStage} {c : Call} {x : CallCheck} (e : Report) → CallCheckSound d t w c x → x ≡ Err e → Refuses d t w c e
 refuses e (means_refused {e = f} a k z) h =
-    let same : f ≡ e = same_report (checks.Refused f) f e refl h in record { answers = a ∙ ap unwritten same; by_check = k; stays = z }
+    let same : f ≡ e = same_report (Err f) f e refl h in record { answers = a ∙ ap unwritten same; by_check = k; stays = z }
 refuses {d} {t} e (means_taken r z small) h = let z : ◌≡◌ {A = ℕ} 0 1 = cc in absurd (omega arith)
 
-module _ (s : Converter) (c : Call) (out : List ℕ) (e : Report) (h : check_of s c ≡ checks.Refused e) where
+module _ (s : Converter) (c : Call) (out : List ℕ) (e : Report) (h : check_of s c ≡ Err e) where
   says_refused : (a : Written) → a ≡ unwritten e → Says (text_answer (unwritten e)) out out a
   says_refused a z = subst (λ (x : Written). Says (text_answer (unwritten e)) out out x) (sym z) (record { answer = refl; leaves = refl })
 
-  says_unknown : check_of s c ≡ checks.Refused (refusal 11) → Says (text_answer (unwritten e)) out out (unwritten (refusal 11))
+  says_unknown : check_of s c ≡ Err (refusal 11) → Says (text_answer (unwritten e)) out out (unwritten (refusal 11))
   says_unknown z = says_refused (unwritten (refusal 11)) (ap unwritten (same_report (check_of s c) (refusal 11) e z h))
 
   stays_models :
@@ -256,11 +255,14 @@ record TakenAt (d t d' t' : Dialect) (c : Call) (w : ConverterStage) : Type 0 wh
   stands : w ≡ taking read
   sized : too_small c ≡ false
 
+same_pair : {x y : Dialect × Dialect} → ◌≡◌ {A = CallCheck} (Ok x) (Ok y) → x ≡ y
+same_pair e = cc
+
 taken_at :
-    {d t : Dialect} {w : ConverterStage} {c : Call} {x : CallCheck} (d' t' : Dialect) → CallCheckSound d t w c x → x ≡ checks.Proceed d' t' →
+    {d t : Dialect} {w : ConverterStage} {c : Call} {x : CallCheck} (d' t' : Dialect) → CallCheckSound d t w c x → x ≡ Ok (d', t') →
     TakenAt d t d' t' c w
 taken_at d' t' (means_refused a k z) h = let z : ◌≡◌ {A = ℕ} 0 1 = cc in absurd (omega arith)
-taken_at d' t' (means_taken r z small) h = record { from = cc; to = cc; read = r; stands = z; sized = small }
+taken_at d' t' (means_taken r z small) h = record { from = ap (λ (x : Dialect × Dialect). x.0) (same_pair h); to = ap (λ (x : Dialect × Dialect). x.1) (same_pair h); read = r; stands = z; sized = small }
 
 -- what the state then represents
 record Holds (d t : Dialect) (consumed : Bytes) (s : Converter) (w : ConverterStage) : Type 0 where
@@ -282,7 +284,7 @@ holds d t r p q z (stage_ended tells) = let z : ◌≡◌ {A = ℕ} 0 1 = cc in 
 holds {m} d t r p q z (stage_no_source none-m) = none_known (dialect_of m) d none-m p
 holds {n = n} d t r p q z (stage_no_target none-n) = none_known (dialect_of n) t none-n q
 
-module _ (s : Converter) (c : Call) (d t : Dialect) (h : check_of s c ≡ checks.Proceed d t) (out : List ℕ) (told : TextAnswer) (next : Converter)
+module _ (s : Converter) (c : Call) (d t : Dialect) (h : check_of s c ≡ Ok (d, t)) (out : List ℕ) (told : TextAnswer) (next : Converter)
     (out' : List ℕ) where
   abbrev stood : (done : List Rec) → Buffered → Read
   stood done k = read_at d (place_of s) done k
@@ -343,7 +345,7 @@ module _ (s : Converter) (c : Call) (d t : Dialect) (h : check_of s c ≡ checks
         as_named m n d' t' consumed w (taking (stood y.done y.k)) x.from x.to y.stands here
 
     -- no check refuses it
-    not_refused : {A : Type 0} (e : Report) → check_of s c ≡ checks.Refused e → A
+    not_refused : {A : Type 0} (e : Report) → check_of s c ≡ Err e → A
     not_refused e z = let z : ◌≡◌ {A = ℕ} 0 1 = cc in absurd (omega arith)
 
     taken_called : CallContract s c out told next out'
@@ -358,7 +360,7 @@ module _ (s : Converter) (c : Call) (d t : Dialect) (h : check_of s c ≡ checks
 module _ (s : Converter) (d t : Dialect) (out : List ℕ) where
   -- the state is none that calls make
   pub lost_called :
-      (c : Call) (told : TextAnswer) → check_of s c ≡ checks.Proceed d t → told.length ≤ length out →
+      (c : Call) (told : TextAnswer) → check_of s c ≡ Ok (d, t) → told.length ≤ length out →
       (InBounds (place_of s) (current_in (place_of s) s.name_ends s.ends) → ⊥) → CallContract s c out told s out
   lost_called c told h within out_of_lem =
       taken_called s c d t h out told s out (refl, refl) within refl λ m n consumed done k p q takes small. absurd (out_of_lem takes.bounds)
@@ -366,7 +368,7 @@ module _ (s : Converter) (d t : Dialect) (out : List ℕ) where
   module _ (r : call-taken.CallResult) (ends' name_ends' bytes' names' out' : List ℕ) (within : r.length ≤ length out)
       (as_long : length out' ≡ length out) where
     pub piece_called :
-        (bs : Bytes) → check_of s (piece bs (length out)) ≡ checks.Proceed d t →
+        (bs : Bytes) → check_of s (piece bs (length out)) ≡ Ok (d, t) →
         ((before : Bytes) (done : List Rec) (k : Buffered) →
         Begun d (into t) before bs (place_of s) s.names s.name_ends s.bytes s.ends out done k →
         PieceRunSound d (into t) before bs (place_of s) done k out names' name_ends' bytes' ends' out' r) →
@@ -382,7 +384,7 @@ module _ (s : Converter) (d t : Dialect) (out : List ℕ) where
         )
 
     pub end_called :
-        check_of s (finish (length out)) ≡ checks.Proceed d t →
+        check_of s (finish (length out)) ≡ Ok (d, t) →
         ((before : Bytes) (done : List Rec) (k : Buffered) →
         Begun d (into t) before [] (place_of s) s.names s.name_ends s.bytes s.ends out done k →
         Finished d (into t) (place_of s) done k out out' r × Named before names' name_ends' done) →

@@ -8,7 +8,7 @@ use Rattle.model.specs.laws.Machine as machine
 use Rattle.codes.specs.Named.{text_answer}
 use Rattle.codes.specs.declared.TextAnswer.{TextAnswer}
 use Rattle.piece_state.specs.Checks.{check_now}
-use Rattle.piece_state.specs.declared.checks.CallCheck.TheVariants.{Refused}
+use Rattle.std.specs.Prelude.{Err}
 use Rattle.piece_converter.specs.States.{stored_end, stored_fault}
 use Rattle.piece_converter.specs.Representation.{Models}
 use Rattle.piece_converter.specs.declared.Converter.{Converter}
@@ -63,5 +63,5 @@ pub record CallContract (s : Converter) (c : Call) (out : List ℕ) (told : Text
   pub as_long : length out' ≡ length out
   pub dialects : (next.source ≡ s.source) × (next.target ≡ s.target)
   pub checks :
-      (e : Report) → check_now s.source s.target s.fault s.ended (length (bytes_of c)) (room_of c) ≡ Refused e →
+      (e : Report) → check_now s.source s.target s.fault s.ended (length (bytes_of c)) (room_of c) ≡ Err e →
       (told ≡ text_answer (unwritten e)) × (next ≡ s) × (out' ≡ out)

@@ -19,7 +19,7 @@ use Rattle.model.proofs.Tests.{impossible}
 use Rattle.codes.specs.declared.TextAnswer.{TextAnswer}
 use Rattle.codes.specs.Named.{text_answer}
 use Rattle.table_writer.specs.TableParts.{is_there}
-use Rattle.record_target.specs.declared.Measurement.TheVariants.{Accepted, Refused}
+use Rattle.std.specs.Prelude.{Ok, Err}
 use Rattle.table_writer.specs.Rows.{sum_by, measured_as}
 use Rattle.table_writer.specs.Answered.{table_written, written_in, writer_in}
 
@@ -60,22 +60,22 @@ record NoFault (t : Target) (rs : List (List Value)) (k : ℕ) (o : Option Repor
   pub faultless : o ≡ None
   pub size : k ≡ length (table_text t rs)
 
-accepted_by : (t : Target) (rs : List (List Value)) (k : ℕ) (o : Option Report) → sum_by t rs o ≡ Accepted k → NoFault t rs k o
+accepted_by : (t : Target) (rs : List (List Value)) (k : ℕ) (o : Option Report) → sum_by t rs o ≡ Ok k → NoFault t rs k o
 accepted_by t rs k None e = record { faultless = refl; size = cc }
 accepted_by t rs k (Some x) e = let z : ◌≡◌ {A = ℕ} 0 1 = cc in absurd (omega arith)
 
-refused_by : (t : Target) (rs : List (List Value)) (x : Report) (o : Option Report) → sum_by t rs o ≡ Refused x → o ≡ Some x
+refused_by : (t : Target) (rs : List (List Value)) (x : Report) (o : Option Report) → sum_by t rs o ≡ Err x → o ≡ Some x
 refused_by t rs x None e = let z : ◌≡◌ {A = ℕ} 0 1 = cc in absurd (omega arith)
 refused_by t rs x (Some y) e = cc
 
 module _ (t : Dialect) (rs : List (List Value)) where
-  pub accepted_size : (k : ℕ) → measured_as (into t) rs ≡ Accepted k → k ≡ length (table_text (into t) rs)
+  pub accepted_size : (k : ℕ) → measured_as (into t) rs ≡ Ok k → k ≡ length (table_text (into t) rs)
   accepted_size k e = (accepted_by (into t) rs k (rows_fault (into t) rs) e).size
 
-  pub accepted_written : (k room : ℕ) → measured_as (into t) rs ≡ Accepted k → table_written t rs room ≡ fitted room (table_text (into t) rs)
+  pub accepted_written : (k room : ℕ) → measured_as (into t) rs ≡ Ok k → table_written t rs room ≡ fitted room (table_text (into t) rs)
   accepted_written k room e = ap (written_rows (into t) room rs) (accepted_by (into t) rs k (rows_fault (into t) rs) e).faultless
 
-  pub refused_written : (x : Report) (room : ℕ) → measured_as (into t) rs ≡ Refused x → table_written t rs room ≡ unwritten x
+  pub refused_written : (x : Report) (room : ℕ) → measured_as (into t) rs ≡ Err x → table_written t rs room ≡ unwritten x
   refused_written x room e = ap (written_rows (into t) room rs) (refused_by (into t) rs x (rows_fault (into t) rs) e)
 
 -- ---- the writer

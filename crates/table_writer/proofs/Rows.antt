@@ -16,7 +16,8 @@ use Rattle.model.specs.declared.Fault.{Fault}
 use Rattle.model.specs.declared.Report.{Report}
 use Rattle.model.specs.declared.Target.{Target}
 use Rattle.model.specs.rules.Types.{CheckResult}
-use Rattle.std.specs.Prelude.{Ok, Err}
+use Rattle.std.specs.Prelude.{Result, Ok, Err}
+use Rattle.core.specs.Result.{result_and}
 use Rattle.model.specs.rules.Base.{Bytes, choose◌then◌else◌, is_empty, over}
 use Rattle.model.specs.rules.Dialect.{into}
 use Rattle.model.specs.rules.Text.{Value, record_text, data_text, table_text, ending}
@@ -24,10 +25,9 @@ use Rattle.model.specs.rules.Report.{MAXFILE, report, number_of, column_of}
 use Rattle.model.specs.rules.Records.{◌or_else◌, target_fault}
 use Rattle.model.specs.rules.Api.{rows_of, row_fault, or_next, rows_from, rows_fault}
 use Rattle.model.proofs.round_trip.TableText.{row_length}
-use Rattle.model.proofs.file_laws.CheckResults.{else_sound, target_sound}
+use Rattle.model.proofs.file_laws.CheckResults.{else_sound, target_sound, fault_sound}
 use Rattle.buffer.specs.Writes.{Room, WrittenAt}
 use Rattle.buffer.proofs.WriteProgress.{Emitting, emitting, room_next, put_next, put_whole, same_long, written_first}
-use Rattle.record_target.specs.declared.Measurement.TheVariants.{Accepted, Refused}
 use Rattle.table_writer.specs.Rows.{header_if, row_check, sum_by, measured_as}
 
 -- ---- the records that are left
@@ -80,6 +80,13 @@ module _ {vs : List Value} {columns records n at : ℕ} (s : Lies vs columns rec
 
 -- ---- measuring
 
+-- the two results of measuring
+abbrev as_measured : ℕ → Result ℕ Report
+as_measured n = Ok n
+
+abbrev pub as_refused : Report → Result ℕ Report
+as_refused e = Err e
+
 empty_count : (done : List (List Value)) (n : ℕ) → length done ≡ n → is_empty done ≡ eqb n 0
 empty_count [] n e = rw (← e)
 empty_count (r ∷ rs) n e = sym (ne_eqb n 0 λ z. omega (arith, e, z))
@@ -90,6 +97,21 @@ row_check_lem :
 unfolding ◌or_else◌
 row_check_lem t [] r = refl
 row_check_lem t (h ∷ rs) r = refl
+
+-- the check of a record, with the length of its text
+abbrev pub check_as : Dialect → (header : Bool) → (written : ℕ) → List Value → Result ℕ Fault
+check_as t header written r = result_and (row_check t header written r) (Ok (length (record_text (into t) header r ++ ending t)))
+
+pub part_check : (t : Dialect) (header : Bool) (written : ℕ) {r s : List Value} → r ≡ s → check_as t header written r ≡ check_as t header written s
+part_check t header written e = ap (check_as t header written) e
+
+pub fault_by : (v : CheckResult) (k : ℕ) {e : Fault} → ◌≡◌ {A = Result ℕ Fault} (result_and v (Ok k)) (Err e) → v ≡ Err e
+fault_by (Ok _) k x = fault_sound (sym x)
+fault_by (Err f) k x = cc
+
+sound_by : (v : CheckResult) (k n : ℕ) → ◌≡◌ {A = Result ℕ Fault} (result_and v (Ok k)) (Ok n) → (v ≡ Ok tt) × (n ≡ k)
+sound_by (Ok _) k n x = (refl, cc)
+sound_by (Err f) k n x = fault_sound x
 
 -- n records are checked without a fault, and `size` is the length of their text
 pub record Measuring (t : Dialect) (vs : List Value) (columns records n at size : ℕ) : Type 0 where
@@ -134,10 +156,10 @@ module _ {t : Dialect} {vs : List Value} {columns records n at size : ℕ} (m : 
         ∙ ap (λ (k : ℕ). or_next (suc n) (row_check t (eqb n 0) k r) next) (sym m.text)
 
     pub measured_fault : (e : Fault) → row_check t (eqb n 0) size (row_at vs columns at) ≡ Err e
-        → measured_as (into t) (rows_of records columns vs) ≡ Refused (report (number_of e) (n + 1) (column_of e) 0)
+        → measured_as (into t) (rows_of records columns vs) ≡ Err (report (number_of e) (n + 1) (column_of e) 0)
     measured_fault e v =
         let f : rows_fault (into t) (rows_of records columns vs) ≡ Some (report (number_of e) (suc n) (column_of e) 0) = next_fault ∙ rw v in
-        ap (sum_by (into t) (rows_of records columns vs)) f ∙ ap (λ (k : ℕ). Refused (report (number_of e) k (column_of e) 0)) (sym (add-one n))
+        ap (sum_by (into t) (rows_of records columns vs)) f ∙ ap (λ (k : ℕ). as_refused (report (number_of e) k (column_of e) 0)) (sym (add-one n))
 
     row_fits :
         row_check t (eqb n 0) size (row_at vs columns at) ≡ Ok tt →
@@ -165,14 +187,20 @@ module _ {t : Dialect} {vs : List Value} {columns records n at size : ℕ} (m : 
           faults = next_fault ∙ rw v;
         }
 
-  pub measured_all : records ≤ n → measured_as (into t) (rows_of records columns vs) ≡ Accepted size
+  -- a record that passes its checks
+  pub passed : (h : n < records) (k : ℕ) → check_as t (eqb n 0) size (row_at vs columns at) ≡ Ok k → Measuring t vs columns records (n + 1) (at + columns) (size + k)
+  passed h k e =
+      let s = sound_by (row_check t (eqb n 0) size (row_at vs columns at)) _ k e in
+      measured_next h k s.0 s.1
+
+  pub measured_all : records ≤ n → measured_as (into t) (rows_of records columns vs) ≡ Ok size
   unfolding rows_from
   measured_all h =
       let e : rows_left vs columns records n at ≡ [] = rows_end vs columns records n at h in
       let f : rows_fault (into t) (rows_of records columns vs) ≡ None = m.faults ∙ ap (rows_from (into t) m.done) e in
       let g : rows_of records columns vs ≡ m.done = m.all_rows ∙ ap (λ (l : List (List Value)). m.done ++ l) e ∙ append-nil m.done in
-      ap (sum_by (into t) (rows_of records columns vs)) f ∙ ap (λ (l : List (List Value)). Accepted (length (table_text (into t) l))) g
-      ∙ ap Accepted (sym m.text)
+      ap (sum_by (into t) (rows_of records columns vs)) f ∙ ap (λ (l : List (List Value)). as_measured (length (table_text (into t) l))) g
+      ∙ ap as_measured (sym m.text)
 
 -- ---- writing
 

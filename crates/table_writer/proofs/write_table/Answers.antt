@@ -12,21 +12,21 @@ use Rattle.table_writer.proofs.write_table.Goals as goal
 pub write_if_fits-requires : goal.write_if_fits-requires
 write_if_fits-requires c =
     let rows : List (List Value) = rows_of c.args.records c.args.columns (cells_in Contents c.args.content.now c.args.starts.now c.args.ends.now c.args.kinds.now) in
-    record { cells = c.requires.cells; starts_len = c.requires.starts_len; size_value = accepted_size c.args.t rows c.in-Accepted.length (sym c.measure.ensures ∙ c.in-Accepted.is) }
+    record { cells = c.requires.cells; starts_len = c.requires.starts_len; size_value = accepted_size c.args.t rows c.in-Ok.length (sym c.measure.ensures ∙ c.in-Ok.is) }
 
-pub returns-in-Accepted : goal.returns-in-Accepted
-returns-in-Accepted c =
+pub returns-in-Ok : goal.returns-in-Ok
+returns-in-Ok c =
     let rows : List (List Value) = rows_of c.args.records c.args.columns (cells_in Contents c.args.content.now c.args.starts.now c.args.ends.now c.args.kinds.now) in
     let told =
     answers_as c.args.room.now
-    (accepted_written c.args.t rows c.in-Accepted.length (length c.args.room.now) (sym c.measure.ensures ∙ c.in-Accepted.is))
+    (accepted_written c.args.t rows c.in-Ok.length (length c.args.room.now) (sym c.measure.ensures ∙ c.in-Ok.is))
     c.write_if_fits.ensures.value c.write_if_fits.ensures.room_after in
     record { value = told.0; room_after = told.1 }
 
-pub returns-in-Refused : goal.returns-in-Refused
-returns-in-Refused c =
+pub returns-in-Err : goal.returns-in-Err
+returns-in-Err c =
     let rows : List (List Value) = rows_of c.args.records c.args.columns (cells_in Contents c.args.content.now c.args.starts.now c.args.ends.now c.args.kinds.now) in
     let told =
     refuses {room = c.args.room.now} c.refusal.ensures refl
-    (refused_written c.args.t rows c.in-Refused.e (length c.args.room.now) (sym c.measure.ensures ∙ c.in-Refused.is)) in
+    (refused_written c.args.t rows c.in-Err.e (length c.args.room.now) (sym c.measure.ensures ∙ c.in-Err.is)) in
     record { value = told.0; room_after = told.1 }

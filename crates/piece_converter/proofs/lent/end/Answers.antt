@@ -15,7 +15,7 @@ use Rattle.model.specs.laws.Scans.{Buffered}
 use Rattle.model.proofs.Tests.{impossible}
 use Rattle.codes.specs.declared.TextAnswer.{TextAnswer}
 use Rattle.piece_state.specs.Checks.{check_now}
-use Rattle.piece_state.specs.declared.checks.CallCheck.TheVariants as checks
+use Rattle.std.specs.Prelude.{Ok}
 use Rattle.piece_state.specs.declared.place.Place.{Place}
 use Rattle.piece_step.specs.Steps.{InBounds, current_in}
 use Rattle.piece_step.specs.Calls.{Named, Begun, Finished}
@@ -35,9 +35,9 @@ returns-then-not-is_in_bounds c =
     (λ (f : Report). c.check_call.result ≡ check_now a.source a.target f (stored_end a.numbers.now) 0 (length a.out.now))
     c.stored_fault.ensures
     c.check_call.ensures in
-    let d = c.in-Proceed.d in
-    let t = c.in-Proceed.t in
-    let taken : check_of s call ≡ checks.Proceed d t = sym told ∙ c.in-Proceed.is in
+    let d = c.in-Ok.d in
+    let t = c.in-Ok.t in
+    let taken : check_of s call ≡ Ok (d, t) = sym told ∙ c.in-Ok.is in
     let place : c.place_in-p.result ≡ place_of s = c.place_in-p.ensures in
     let none = ap (λ (x : TextAnswer). x.length) c.refusal-then-not-is_in_bounds.ensures in
     let within : c.refusal-then-not-is_in_bounds.result.length ≤ length a.out.now = omega arith in
@@ -55,8 +55,8 @@ end_file-r-requires c =
       long_ends = search rules;
     }
 
-pub returns-in-Refused : goal.returns-in-Refused
-returns-in-Refused c =
+pub returns-in-Err : goal.returns-in-Err
+returns-in-Err c =
     let a = c.args in
     let s = converter_of a.source a.target a.numbers.now a.ends.now a.name_ends.now a.bytes.now a.names.now in
     let call = finish (length a.out.now) in
@@ -68,7 +68,7 @@ returns-in-Refused c =
     subst
     (λ (x : TextAnswer). CallContract s call a.out.now x s a.out.now)
     (sym c.refusal.ensures)
-    (refused_called s call a.out.now c.in-Refused.report (sym told ∙ c.in-Refused.is))
+    (refused_called s call a.out.now c.in-Err.e (sym told ∙ c.in-Err.is))
 
 pub returns-else-not-is_in_bounds : goal.returns-else-not-is_in_bounds
 returns-else-not-is_in_bounds c =
@@ -80,9 +80,9 @@ returns-else-not-is_in_bounds c =
     (λ (f : Report). c.check_call.result ≡ check_now a.source a.target f (stored_end a.numbers.now) 0 (length a.out.now))
     c.stored_fault.ensures
     c.check_call.ensures in
-    let d = c.in-Proceed.d in
-    let t = c.in-Proceed.t in
-    let taken : check_of s call ≡ checks.Proceed d t = sym told ∙ c.in-Proceed.is in
+    let d = c.in-Ok.d in
+    let t = c.in-Ok.t in
+    let taken : check_of s call ≡ Ok (d, t) = sym told ∙ c.in-Ok.is in
     let place : c.place_in-p.result ≡ place_of s = c.place_in-p.ensures in
     let w = c.end_file-r in
     let name_ends' : List ℕ = w.new.name_ends in

@@ -1,19 +1,15 @@
 use mathlib.Core.Path.{◌≡◌, sym, ap, ◌∙◌}
-use mathlib.Core.List.{List, ◌++◌}
+use mathlib.Core.List.{List}
 use Prim.Native.Nat.{◌+◌, ◌≤◌}
 use native.Mathlib.Omega.{arith}
 use lib.ListN.{length}
 use lib.Dec.{eqb}
-use Rattle.std.specs.Prelude.{Ok}
-use Rattle.model.specs.rules.Dialect.{into}
-use Rattle.model.specs.rules.Text.{Value, record_text, ending}
+use Rattle.model.specs.rules.Text.{Value}
 use Rattle.cell_decoder.specs.declared.source.Source.TheVariants.{Contents}
 use Rattle.cell_decoder.specs.Sources.{cells_in}
 use Rattle.cell_decoder.proofs.CellsIn.{cells_length}
-use Rattle.record_target.specs.declared.Measurement.TheVariants.{Refused}
-use Rattle.table_writer.specs.Rows.{row_check}
 use Rattle.table_writer.proofs.Parts.{part_cells, part_stands}
-use Rattle.table_writer.proofs.Rows.{row_at, row_inside, Measuring, measuring, measured_fault, measured_next, measured_all}
+use Rattle.table_writer.proofs.Rows.{row_inside, measuring, measured_fault, measured_all, passed, part_check, fault_by, as_refused}
 use Rattle.table_writer.proofs.records.measure.Goals as goal
 
 pub loop-n-init : goal.loop-n-init
@@ -90,8 +86,8 @@ slice_bounds-check_record-end-in-loop-n-2 c =
     omega (arith, inside, c.requires.cells.with_kinds) in
     inside-kinds
 
-pub check_record-r-requires : goal.check_record-r-requires
-check_record-r-requires c =
+pub check_record-requires : goal.check_record-requires
+check_record-requires c =
     let cells : List Value = cells_in Contents c.args.content.now c.args.starts.now c.args.ends.now c.args.kinds.now in
     let count : length cells ≡ length c.args.starts.now =
     cells_length Contents c.args.content.now c.args.starts.now c.args.ends.now c.args.kinds.now c.requires.cells.with_ends
@@ -107,56 +103,25 @@ check_record-r-requires c =
 
 pub returns-in-Err : goal.returns-in-Err
 returns-in-Err c =
-    let cells : List Value = cells_in Contents c.args.content.now c.args.starts.now c.args.ends.now c.args.kinds.now in
-    let verdict-at : (let l = c.loop-n in c.check_record-r.result.verdict ≡ row_check c.args.t (eqb l.n 0) l.size (row_at cells c.args.columns l.at)) =
-    let l = c.loop-n in
     let a = c.args in
-    c.check_record-r.ensures.verdict_value
-    ∙ ap (row_check a.t (eqb l.n 0) l.size) (part_cells Contents a.content.now a.starts.now a.ends.now a.kinds.now l.at a.columns) in
-    ap Refused c.record_report.ensures
-    ∙ sym
-    (measured_fault c.loop-n.invariant c.loop-n-test.true c.in-Err.e
-    (sym (verdict-at) ∙ c.in-Err.is))
+    let l = c.loop-n in
+    let cells : List Value = cells_in Contents a.content.now a.starts.now a.ends.now a.kinds.now in
+    let e = sym (part_check a.t (eqb l.n 0) l.size (part_cells Contents a.content.now a.starts.now a.ends.now a.kinds.now l.at a.columns)) ∙ sym c.check_record.ensures ∙ c.in-Err.is in
+    ap as_refused c.record_report.ensures ∙ sym (measured_fault l.invariant c.loop-n-test.true c.in-Err.e (fault_by _ _ e))
 
 pub overflow_add-size : goal.overflow_add-size
 overflow_add-size c =
-    let cells : List Value = cells_in Contents c.args.content.now c.args.starts.now c.args.ends.now c.args.kinds.now in
-    let verdict-at : (let l = c.loop-n in c.check_record-r.result.verdict ≡ row_check c.args.t (eqb l.n 0) l.size (row_at cells c.args.columns l.at)) =
+    let a = c.args in
     let l = c.loop-n in
-    let a = c.args in
-    c.check_record-r.ensures.verdict_value
-    ∙ ap (row_check a.t (eqb l.n 0) l.size) (part_cells Contents a.content.now a.starts.now a.ends.now a.kinds.now l.at a.columns) in
-    let length_at : (let l = c.loop-n in c.check_record-r.result.verdict ≡ Ok tt → c.check_record-r.result.length ≡ length (record_text (into c.args.t) (eqb l.n 0) (row_at cells c.args.columns l.at) ++ ending c.args.t)) =
-    λ e. let l = c.loop-n in
-    let a = c.args in
-    c.check_record-r.ensures.length_value e
-    ∙ ap (λ (r : List Value). length (record_text (into a.t) (eqb l.n 0) r ++ ending a.t))
-    (part_cells Contents a.content.now a.starts.now a.ends.now a.kinds.now l.at a.columns) in
-    let passed : Measuring c.args.t cells c.args.columns c.args.records (c.loop-n.n + 1) (c.loop-n.at + c.args.columns) (c.loop-n.size + c.check_record-r.result.length) =
-    let sound = c.in_default.is in
-    measured_next c.loop-n.invariant c.loop-n-test.true c.check_record-r.result.length
-    (sym (verdict-at) ∙ sound) (length_at sound) in
-    omega (arith, (passed).within)
+    let e = sym (part_check a.t (eqb l.n 0) l.size (part_cells Contents a.content.now a.starts.now a.ends.now a.kinds.now l.at a.columns)) ∙ sym c.check_record.ensures ∙ c.in-Ok.is in
+    omega (arith, (passed l.invariant c.loop-n-test.true c.in-Ok.length e).within)
 
 pub loop-n-preserved : goal.loop-n-preserved
 loop-n-preserved c =
-    let cells : List Value = cells_in Contents c.args.content.now c.args.starts.now c.args.ends.now c.args.kinds.now in
-    let verdict-at : (let l = c.loop-n in c.check_record-r.result.verdict ≡ row_check c.args.t (eqb l.n 0) l.size (row_at cells c.args.columns l.at)) =
+    let a = c.args in
     let l = c.loop-n in
-    let a = c.args in
-    c.check_record-r.ensures.verdict_value
-    ∙ ap (row_check a.t (eqb l.n 0) l.size) (part_cells Contents a.content.now a.starts.now a.ends.now a.kinds.now l.at a.columns) in
-    let length_at : (let l = c.loop-n in c.check_record-r.result.verdict ≡ Ok tt → c.check_record-r.result.length ≡ length (record_text (into c.args.t) (eqb l.n 0) (row_at cells c.args.columns l.at) ++ ending c.args.t)) =
-    λ e. let l = c.loop-n in
-    let a = c.args in
-    c.check_record-r.ensures.length_value e
-    ∙ ap (λ (r : List Value). length (record_text (into a.t) (eqb l.n 0) r ++ ending a.t))
-    (part_cells Contents a.content.now a.starts.now a.ends.now a.kinds.now l.at a.columns) in
-    let passed : Measuring c.args.t cells c.args.columns c.args.records (c.loop-n.n + 1) (c.loop-n.at + c.args.columns) (c.loop-n.size + c.check_record-r.result.length) =
-    let sound = c.in_default.is in
-    measured_next c.loop-n.invariant c.loop-n-test.true c.check_record-r.result.length
-    (sym (verdict-at) ∙ sound) (length_at sound) in
-    passed
+    let e = sym (part_check a.t (eqb l.n 0) l.size (part_cells Contents a.content.now a.starts.now a.ends.now a.kinds.now l.at a.columns)) ∙ sym c.check_record.ensures ∙ c.in-Ok.is in
+    passed l.invariant c.loop-n-test.true c.in-Ok.length e
 
 pub returns : goal.returns
 returns c = sym (measured_all c.loop-n.invariant c.loop-n-test.false)
