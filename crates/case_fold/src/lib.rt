@@ -232,6 +232,7 @@ impl Folding {
         self.byte_at(a, i) == self.byte_at(b, i)
     }
 
+    // By offset and not by `zip`: each folded byte depends on three bytes of its name.
     #[tactic(auto, using(crate::proofs::FoldedNames::same_end, crate::proofs::FoldedNames::same_differs, crate::proofs::FoldedNames::same_next))]
     fn same_names(&self, a: &[u8], b: &[u8]) -> bool
         requires { length a.now ≡ length b.now }
@@ -248,7 +249,8 @@ impl Folding {
 
 // ---- two names
 
-// Whether two names of the same length are the same, if they are in ASCII or if a byte of ASCII distinguishes them.
+// Whether two names of the same length are the same, if they are in ASCII or if a byte of ASCII distinguishes them. By offset, as the laws
+// of `same_names` are.
 #[tactic(auto, using(crate::proofs::Letters::ascii_at, crate::proofs::FoldedNames::same_end, crate::proofs::FoldedNames::same_differs, crate::proofs::FoldedNames::same_next))]
 fn compare_ascii(a: &[u8], b: &[u8]) -> Option<bool>
     requires { length a.now ≡ length b.now }

@@ -121,7 +121,7 @@ fn cell_run(d: Dialect, c: Cell, s: &[u8], at: usize, stop: usize) -> usize
     }
 }
 
-// The rest of a cell from `from`, at most up to `stop`.
+// The rest of a cell from `from`, at most up to `stop`. The offset jumps over runs, so no `for` counts it.
 pub fn cell_end(d: Dialect, c0: Cell, s: &[u8], from: usize, stop: usize) -> CellEnd
     requires { (from ≤ stop) × (stop ≤ length s.now) }
     ensures { result ≡ cell_run d c0 from (slice s.now from stop) }

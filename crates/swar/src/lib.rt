@@ -75,7 +75,7 @@ fn three(s: &[u8], i: usize, j: usize, k: usize) -> u64
 }
 
 // The last eight bytes of a span. A span of fewer fills the word by bytes that are read twice, so that no byte outside is read and none
-// needs a step of its own.
+// needs a step of its own. The lengths are tested by `if`, the most frequent first, where a `match` would leave the order to the compiler.
 pub fn last_word(s: &[u8], from: usize, upto: usize) -> u64
     requires { (from ≤ upto) × (upto ≤ length s.now) }
     ensures { LastBytes s.now from upto result }
