@@ -1,6 +1,6 @@
 // Dialects and kinds by number, as they come in from C and are returned to it.
 ghost use Rattle.std.specs.Prelude.{◌≡◌};
-ghost use Rattle.core.specs.Result.{result_ok};
+ghost use Rattle.std.specs.Result.{result_ok};
 ghost use Rattle.model.specs.rules.Dialect.{dialect_of};
 ghost use Rattle.model.specs.rules.Decode.{kind_number};
 ghost use Rattle.model.specs.rules.Api.{kind_named};
