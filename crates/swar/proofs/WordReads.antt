@@ -163,3 +163,14 @@ zeros_bytes (suc n) w =
 
 pub zeros_word : (w : ℕ) → count_trailing_zeros 64 w / 8 ≡ zero_bytes (bytes_of 8 w)
 zeros_word w = zeros_bytes 8 w
+
+-- of a word that is not 0, some byte is not
+pub flag_within : (n w : ℕ) → w < 0x100 ^ n → ¬ (w ≡ 0) → zero_bytes (bytes_of n w) < n
+unfolding zero_bytes bytes_of choose◌then◌else◌
+flag_within zero w h k = absurd (k (omega arith))
+flag_within (suc n) w h k =
+    split_on ((w % 0x100) is 0)
+    (λ t.
+    let e = eqb-true (w % 0x100) 0 t in
+    let ih = flag_within n (w / 0x100) (omega arith) (λ z. k (omega arith)) in rw t (omega arith))
+    λ t. rw t (omega arith)

@@ -6,7 +6,7 @@
 // difference subtracts no more than it has. A new test needs the values on one byte and the laws of proofs/Bytewise.antt.
 #![tactic(auto)]
 
-ghost use Rattle.std.specs.Prelude.{◌≡◌, ◌+◌, ◌*◌, ◌≤◌, ◌<◌, [], ◌∷◌, ◌++◌, length, get_or};
+ghost use Rattle.std.specs.Prelude.{◌≡◌, ◌+◌, ◌*◌, ◌≤◌, ◌<◌, [], ◌∷◌, ◌++◌, length, get_or, IfSome};
 ghost use Rattle.model.specs.rules.Base.{QUOTE};
 ghost use Rattle.model.specs.rules.Cell.{is_digit};
 ghost use Rattle.model.specs.rules.Api.{slice};
@@ -75,7 +75,7 @@ fn three(s: &[u8], i: usize, j: usize, k: usize) -> u64
 }
 
 // The last eight bytes of a span. A span of fewer fills the word by bytes that are read twice, so that no byte outside is read and none
-// needs a step of its own. The lengths are tested by `if`, the most frequent first, where a `match` would leave the order to the compiler.
+// needs a step of its own.
 pub fn last_word(s: &[u8], from: usize, upto: usize) -> u64
     requires { (from ≤ upto) × (upto ≤ length s.now) }
     ensures { LastBytes s.now from upto result }
@@ -191,13 +191,14 @@ pub fn before_flag(flags: u64) -> usize
     flags.trailing_zeros() as usize / 8
 }
 
-// A guess at the number of bytes before the first `c`; 8: none found. It takes fewer instructions than an exact test, since it takes a
-// byte that differs in its top bit alone for `c`. Nothing is promised of it, so its callers test what it returns. No Option: they join
-// `n < 8` to their other tests of n by `&&`, in one condition, where an `if let` would nest them.
-pub fn guess(w: u64, c: u8) -> usize {
+// A guess at the number of bytes before the first `c`, if one is found. It takes fewer instructions than an exact test, since it takes a
+// byte that differs in its top bit alone for `c`. Only that it is within the word is promised, so its callers test what it returns.
+pub fn guess(w: u64, c: u8) -> Option<usize>
+    ensures { IfSome result (λ n. n < 8) }
+{
     let near = (TOP_BITS - ((w & LOW_BITS) ^ eight_stops(c))) & TOP_BITS;
     if near == 0 {
-        return 8;
+        return None;
     }
-    before_flag(near)
+    Some(before_flag(near))
 }
