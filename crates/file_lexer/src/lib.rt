@@ -62,10 +62,10 @@ fn in_comment(t: Char, b: u8) -> Result<(FileState, ByteRole), ByteFault>
     match (t, b) {
         (Char::Whole, b'\n') => Ok((FileState::Begin, ByteRole::Passed)),
         (Char::Whole, b'\r') => Ok((FileState::Ended, ByteRole::Passed)),
-        _ => {
-            let next = utf8::char_step(t, b).ok_or(ByteFault::Encoding)?;
-            Ok((FileState::Comment(next), ByteRole::Outside))
-        }
+        _ => match utf8::char_step(t, b) {
+            Some(next) => Ok((FileState::Comment(next), ByteRole::Outside)),
+            None => Err(ByteFault::Encoding),
+        },
     }
 }
 

@@ -1,5 +1,5 @@
 // The step of the byte after a cell, in all three dialects: delimiters, blanks and endings. Each is the definition's (`after_cell` of
-// model's specs/rules/File.antt), with its tests in the same order.
+// model's specs/rules/File.antt), with its tests in the same order. A function a dialect: each has its own state after a CR.
 ghost use Rattle.std.specs.Prelude.{◌≡◌};
 ghost use Rattle.model.specs.rules.File.{is_blank, after_cell};
 

