@@ -53,7 +53,7 @@ use Rattle.record_scanner.specs.CurrentRecord.{closes_cell, ends_record, one_mor
 use Rattle.record_scanner.specs.Parts.{current_of, Found, found_of, found_in, raw_starts, raw_ends, raw_kinds, CurrentInBounds, ScanInBounds}
 use Rattle.record_scanner.specs.Tokens.{scan_at, cells_next, stepped_at, met_next, outer, TokenInBounds, TokenCorrect}
 use Rattle.record_scanner.specs.Stored.{store_if, stored_from}
-use Rattle.record_scanner.proofs.StoreLaws.{stored_from_snoc, length_stored_if, length_stored_from}
+use Rattle.record_scanner.proofs.StoreLaws.{stored_from_snoc, length_stored_from}
 use Rattle.record_scanner.proofs.TokenOutcomes.{goes_to, refuses}
 use Rattle.record_scanner.proofs.OuterStates.{Calm, step_calm, after_calm, leaves, passes, grows, blanks, parts, tails, finishes}
 
@@ -440,18 +440,6 @@ module _ (call : Call) where
     ap length y.at_ends ∙ length_stored_from room base (map upto_of cs) ends₀,
     ap length y.at_kinds ∙ length_stored_from room base (map (number_of d) cs) kinds₀,
   )
-
-  -- also after a cell was stored or not
-  pub put_lengths : {cs : List RawCell} {starts ends kinds starts' ends' kinds' : List ℕ} → Holds cs starts ends kinds
-      → (closes : Bool) (m x y z : ℕ)
-      → (starts' ≡ store_if closes room m x starts) × ((ends' ≡ store_if closes room m y ends) × (kinds' ≡ store_if closes room m z kinds))
-      → (length starts' ≡ length starts₀) × (length ends' ≡ length ends₀) × (length kinds' ≡ length kinds₀)
-  put_lengths {starts = ss} {ends = es} {kinds = ks} y closes m x u z put =
-      let n : (length ss ≡ length starts₀) × (length es ≡ length ends₀) × (length ks ≡ length kinds₀) = lengths y in (
-        ap length put.0 ∙ length_stored_if closes room m x ss ∙ n.0,
-        ap length put.1.0 ∙ length_stored_if closes room m u es ∙ n.1,
-        ap length put.1.1 ∙ length_stored_if closes room m z ks ∙ n.2,
-      )
 
   -- ---- the step of one byte, as the code computes it
 

@@ -72,6 +72,7 @@ pub fn scan(
             };
         }
         match crate::token::next_token(d, part, state, i, h.size, limit) {
+            // A match of its own: of f and p in a nested pattern the proof has terms that do not agree with its own names for them.
             Token::Is(s) => match s {
                 Err(e) => {
                     return ScanOutcome::Failed {

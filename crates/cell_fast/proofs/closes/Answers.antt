@@ -1,7 +1,6 @@
 -- `cell_fast::closes` meets its contract: a quote before a byte that is no second quote closes the cell; in CSVJ every quote does.
 use mathlib.Core.Path.{◌≡◌, sym, ap, ◌∙◌}
 use mathlib.Core.Bool.{false}
-use mathlib.Core.Logic.{inl, inr}
 use native.Mathlib.Omega.{arith}
 use lib.ListN.{get_or}
 use borrow.Author.Tests.{not-true, eqb-false}
@@ -17,6 +16,6 @@ returns-in-Csvj c =
 
 pub returns-in-Tdif : goal.returns-in-Tdif
 returns-in-Tdif c = λ e.
-    let doubles : is_csvj c.args.d ≡ false = elim c.in-Tdif.is [ inl f ↦ rw f | inr f ↦ rw f.1 ] in
+    let doubles : is_csvj c.args.d ≡ false = grind (arith, c.in-Tdif.is) in
     quote_closes c.args.s.now c.args.stop c.args.i c.requires.1 c.args.d doubles (omega arith)
     (c.if-s-i.false ∙ c.requires.2) (λ f. eqb-false _ _ (not-true _ e) (f ∙ sym c.requires.2))

@@ -3,28 +3,7 @@ use native.Mathlib.Omega.{arith}
 use mathlib.Core.Path.{sym, ◌∙◌}
 use lib.ListN.{length}
 use Rattle.model.specs.rules.Report.{MAXFILE, MAXRECORD}
-use Rattle.record_scanner.proofs.ScanInvariant.{
-  ask,
-  begins,
-  too_long_file,
-  too_long_record,
-  by_byte,
-  by_cell,
-  by_skip,
-  by_open,
-  by_refusal,
-  lies_cell,
-  lies_skip,
-  lies_open,
-  step_refused,
-  step_on,
-  step_over,
-  pending,
-  lengths,
-  put_lengths,
-  small_sum,
-  small_step,
-}
+use Rattle.record_scanner.proofs.ScanInvariant.{ask, begins, too_long_file, too_long_record, by_byte, by_cell, by_skip, by_open, by_refusal, lies_cell, lies_skip, lies_open, step_refused, step_on, step_over, pending, lengths, small_sum, small_step}
 use Rattle.record_scanner.proofs.scan.Goals as goal
 
 pub loop-i-init : goal.loop-i-init
@@ -32,29 +11,11 @@ loop-i-init c =
     let q = c.requires in
     begins _ q.from_in_bounds.0 q.from_in_bounds.1 q.from_in_bounds.2 q.size_bound.0 q.size_bound.1
 
-pub shape_of-starts-then-limit-i : goal.shape_of-starts-then-limit-i
-shape_of-starts-then-limit-i c = (lengths _ c.loop-i.invariant.lists).0
-
-pub shape_of-ends-then-limit-i : goal.shape_of-ends-then-limit-i
-shape_of-ends-then-limit-i c = (lengths _ c.loop-i.invariant.lists).1
-
-pub shape_of-kinds-then-limit-i : goal.shape_of-kinds-then-limit-i
-shape_of-kinds-then-limit-i c = (lengths _ c.loop-i.invariant.lists).2
-
 pub returns-then-limit-i : goal.returns-then-limit-i
 returns-then-limit-i c =
     let l = c.loop-i in
     let o = too_long_file _ l.invariant c.loop-i-test.true c.if-limit-i.true in
     record { value = o.answer; starts_after = o.at_starts; ends_after = o.at_ends; kinds_after = o.at_kinds; scan_in_bounds = o.bounds }
-
-pub shape_of-starts-then-is_full : goal.shape_of-starts-then-is_full
-shape_of-starts-then-is_full c = (lengths _ c.loop-i.invariant.lists).0
-
-pub shape_of-ends-then-is_full : goal.shape_of-ends-then-is_full
-shape_of-ends-then-is_full c = (lengths _ c.loop-i.invariant.lists).1
-
-pub shape_of-kinds-then-is_full : goal.shape_of-kinds-then-is_full
-shape_of-kinds-then-is_full c = (lengths _ c.loop-i.invariant.lists).2
 
 pub returns-then-is_full : goal.returns-then-is_full
 returns-then-is_full c =
@@ -66,21 +27,6 @@ pub next_token-requires : goal.next_token-requires
 next_token-requires c =
     let l = c.loop-i in
     (c.loop-i-test.true, c.if-limit-i.false, l.invariant.place.low)
-
-pub shape_of-starts-in-Err : goal.shape_of-starts-in-Err
-shape_of-starts-in-Err c =
-    let asked = ask _ c.loop-i.invariant c.loop-i-test.true c.if-limit-i.false (sym c.is_full.ensures ∙ c.if-is_full.false) c.next_token.ensures.lies c.next_token.ensures.token_correct in
-    (lengths _ asked.scanning.lists).0
-
-pub shape_of-ends-in-Err : goal.shape_of-ends-in-Err
-shape_of-ends-in-Err c =
-    let asked = ask _ c.loop-i.invariant c.loop-i-test.true c.if-limit-i.false (sym c.is_full.ensures ∙ c.if-is_full.false) c.next_token.ensures.lies c.next_token.ensures.token_correct in
-    (lengths _ asked.scanning.lists).1
-
-pub shape_of-kinds-in-Err : goal.shape_of-kinds-in-Err
-shape_of-kinds-in-Err c =
-    let asked = ask _ c.loop-i.invariant c.loop-i-test.true c.if-limit-i.false (sym c.is_full.ensures ∙ c.if-is_full.false) c.next_token.ensures.lies c.next_token.ensures.token_correct in
-    (lengths _ asked.scanning.lists).2
 
 pub returns-in-Err : goal.returns-in-Err
 returns-in-Err c =
@@ -109,21 +55,6 @@ pub overflow_add-i : goal.overflow_add-i
 overflow_add-i c =
     let asked = ask _ c.loop-i.invariant c.loop-i-test.true c.if-limit-i.false (sym c.is_full.ensures ∙ c.if-is_full.false) c.next_token.ensures.lies c.next_token.ensures.token_correct in
     record { fits = (small_step _ (by_byte _ asked _ c.in-Is.is)).0 }
-
-pub shape_of-starts-then-ends_record : goal.shape_of-starts-then-ends_record
-shape_of-starts-then-ends_record c =
-    let asked = ask _ c.loop-i.invariant c.loop-i-test.true c.if-limit-i.false (sym c.is_full.ensures ∙ c.if-is_full.false) c.next_token.ensures.lies c.next_token.ensures.token_correct in
-    (put_lengths _ asked.scanning.lists _ _ _ _ _ (c.store_cell.ensures.starts_after, (c.store_cell.ensures.ends_after, c.store_cell.ensures.kinds_after))).0
-
-pub shape_of-ends-then-ends_record : goal.shape_of-ends-then-ends_record
-shape_of-ends-then-ends_record c =
-    let asked = ask _ c.loop-i.invariant c.loop-i-test.true c.if-limit-i.false (sym c.is_full.ensures ∙ c.if-is_full.false) c.next_token.ensures.lies c.next_token.ensures.token_correct in
-    (put_lengths _ asked.scanning.lists _ _ _ _ _ (c.store_cell.ensures.starts_after, (c.store_cell.ensures.ends_after, c.store_cell.ensures.kinds_after))).1
-
-pub shape_of-kinds-then-ends_record : goal.shape_of-kinds-then-ends_record
-shape_of-kinds-then-ends_record c =
-    let asked = ask _ c.loop-i.invariant c.loop-i-test.true c.if-limit-i.false (sym c.is_full.ensures ∙ c.if-is_full.false) c.next_token.ensures.lies c.next_token.ensures.token_correct in
-    (put_lengths _ asked.scanning.lists _ _ _ _ _ (c.store_cell.ensures.starts_after, (c.store_cell.ensures.ends_after, c.store_cell.ensures.kinds_after))).2
 
 pub returns-then-ends_record : goal.returns-then-ends_record
 returns-then-ends_record c =
@@ -193,21 +124,6 @@ bounds-part-j c =
     let asked = ask _ c.loop-i.invariant c.loop-i-test.true c.if-limit-i.false (sym c.is_full.ensures ∙ c.if-is_full.false) c.next_token.ensures.lies c.next_token.ensures.token_correct in
     (lies_cell _ asked _ _ c.in-AfterCell.is).1
 
-pub shape_of-starts-in-Err-after_cell : goal.shape_of-starts-in-Err-after_cell
-shape_of-starts-in-Err-after_cell c =
-    let asked = ask _ c.loop-i.invariant c.loop-i-test.true c.if-limit-i.false (sym c.is_full.ensures ∙ c.if-is_full.false) c.next_token.ensures.lies c.next_token.ensures.token_correct in
-    (lengths _ asked.scanning.lists).0
-
-pub shape_of-ends-in-Err-after_cell : goal.shape_of-ends-in-Err-after_cell
-shape_of-ends-in-Err-after_cell c =
-    let asked = ask _ c.loop-i.invariant c.loop-i-test.true c.if-limit-i.false (sym c.is_full.ensures ∙ c.if-is_full.false) c.next_token.ensures.lies c.next_token.ensures.token_correct in
-    (lengths _ asked.scanning.lists).1
-
-pub shape_of-kinds-in-Err-after_cell : goal.shape_of-kinds-in-Err-after_cell
-shape_of-kinds-in-Err-after_cell c =
-    let asked = ask _ c.loop-i.invariant c.loop-i-test.true c.if-limit-i.false (sym c.is_full.ensures ∙ c.if-is_full.false) c.next_token.ensures.lies c.next_token.ensures.token_correct in
-    (lengths _ asked.scanning.lists).2
-
 pub returns-in-Err-after_cell : goal.returns-in-Err-after_cell
 returns-in-Err-after_cell c =
     let asked = ask _ c.loop-i.invariant c.loop-i-test.true c.if-limit-i.false (sym c.is_full.ensures ∙ c.if-is_full.false) c.next_token.ensures.lies c.next_token.ensures.token_correct in
@@ -251,24 +167,6 @@ overflow_add-i-in-Ok-after_cell c =
     c.after_bytes-h.ensures _ c.after_cell.ensures in
     record { fits = (small_step _ g).0 }
 
-pub shape_of-starts-then-ends_record-2 : goal.shape_of-starts-then-ends_record-2
-shape_of-starts-then-ends_record-2 c =
-    let asked = ask _ c.loop-i.invariant c.loop-i-test.true c.if-limit-i.false (sym c.is_full.ensures ∙ c.if-is_full.false) c.next_token.ensures.lies c.next_token.ensures.token_correct in
-    (put_lengths _ asked.scanning.lists _ _ _
-    _ _ (c.store_cell-in-Ok-after_cell.ensures.starts_after, (c.store_cell-in-Ok-after_cell.ensures.ends_after, c.store_cell-in-Ok-after_cell.ensures.kinds_after))).0
-
-pub shape_of-ends-then-ends_record-2 : goal.shape_of-ends-then-ends_record-2
-shape_of-ends-then-ends_record-2 c =
-    let asked = ask _ c.loop-i.invariant c.loop-i-test.true c.if-limit-i.false (sym c.is_full.ensures ∙ c.if-is_full.false) c.next_token.ensures.lies c.next_token.ensures.token_correct in
-    (put_lengths _ asked.scanning.lists _ _ _
-    _ _ (c.store_cell-in-Ok-after_cell.ensures.starts_after, (c.store_cell-in-Ok-after_cell.ensures.ends_after, c.store_cell-in-Ok-after_cell.ensures.kinds_after))).1
-
-pub shape_of-kinds-then-ends_record-2 : goal.shape_of-kinds-then-ends_record-2
-shape_of-kinds-then-ends_record-2 c =
-    let asked = ask _ c.loop-i.invariant c.loop-i-test.true c.if-limit-i.false (sym c.is_full.ensures ∙ c.if-is_full.false) c.next_token.ensures.lies c.next_token.ensures.token_correct in
-    (put_lengths _ asked.scanning.lists _ _ _
-    _ _ (c.store_cell-in-Ok-after_cell.ensures.starts_after, (c.store_cell-in-Ok-after_cell.ensures.ends_after, c.store_cell-in-Ok-after_cell.ensures.kinds_after))).2
-
 pub returns-then-ends_record-2 : goal.returns-then-ends_record-2
 returns-then-ends_record-2 c =
     let asked = ask _ c.loop-i.invariant c.loop-i-test.true c.if-limit-i.false (sym c.is_full.ensures ∙ c.if-is_full.false) c.next_token.ensures.lies c.next_token.ensures.token_correct in
@@ -288,21 +186,6 @@ loop-i-preserved-in-Ok-after_cell c =
     step_on _ (by_cell _ asked _ _ c.in-AfterCell.is _
     c.after_bytes-h.ensures _
     c.after_cell.ensures) _ _ c.in-Ok-after_cell.is _ c.closes_cell-in-Ok-after_cell.ensures _ _ _ (c.store_cell-in-Ok-after_cell.ensures.starts_after, (c.store_cell-in-Ok-after_cell.ensures.ends_after, c.store_cell-in-Ok-after_cell.ensures.kinds_after)) _ c.after_byte-h-in-Ok-after_cell.ensures _ c.ends_record-in-Ok-after_cell.ensures c.if-ends_record-2.false
-
-pub shape_of-starts-in-Refused : goal.shape_of-starts-in-Refused
-shape_of-starts-in-Refused c =
-    let asked = ask _ c.loop-i.invariant c.loop-i-test.true c.if-limit-i.false (sym c.is_full.ensures ∙ c.if-is_full.false) c.next_token.ensures.lies c.next_token.ensures.token_correct in
-    (lengths _ asked.scanning.lists).0
-
-pub shape_of-ends-in-Refused : goal.shape_of-ends-in-Refused
-shape_of-ends-in-Refused c =
-    let asked = ask _ c.loop-i.invariant c.loop-i-test.true c.if-limit-i.false (sym c.is_full.ensures ∙ c.if-is_full.false) c.next_token.ensures.lies c.next_token.ensures.token_correct in
-    (lengths _ asked.scanning.lists).1
-
-pub shape_of-kinds-in-Refused : goal.shape_of-kinds-in-Refused
-shape_of-kinds-in-Refused c =
-    let asked = ask _ c.loop-i.invariant c.loop-i-test.true c.if-limit-i.false (sym c.is_full.ensures ∙ c.if-is_full.false) c.next_token.ensures.lies c.next_token.ensures.token_correct in
-    (lengths _ asked.scanning.lists).2
 
 pub returns-in-Refused : goal.returns-in-Refused
 returns-in-Refused c =
@@ -334,15 +217,6 @@ pub loop-i-preserved : goal.loop-i-preserved
 loop-i-preserved c =
     let asked = ask _ c.loop-i.invariant c.loop-i-test.true c.if-limit-i.false (sym c.is_full.ensures ∙ c.if-is_full.false) c.next_token.ensures.lies c.next_token.ensures.token_correct in
     by_open _ asked _ _ c.in-Open.is _ c.after_bytes-h-in-Open.ensures
-
-pub shape_of-starts : goal.shape_of-starts
-shape_of-starts c = (lengths _ c.loop-i.invariant.lists).0
-
-pub shape_of-ends : goal.shape_of-ends
-shape_of-ends c = (lengths _ c.loop-i.invariant.lists).1
-
-pub shape_of-kinds : goal.shape_of-kinds
-shape_of-kinds c = (lengths _ c.loop-i.invariant.lists).2
 
 pub returns : goal.returns
 returns c =
