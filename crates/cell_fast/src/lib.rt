@@ -67,8 +67,10 @@ fn quoted_end(d: Dialect, q: u8, s: &[u8], at: usize, stop: usize) -> Option<Fou
     let words = runs::clean_words(s, at + 1, stop, q, q);
     let from = words.end;
     if let Some(flags) = words.flags {
-        let n = swar::guess(swar::word(s, from), q);
-        if n < 8 && n == swar::before_flag(flags) && closes(d, q, s, from + n, stop) {
+        if let Some(n) = swar::guess(swar::word(s, from), q)
+            && n == swar::before_flag(flags)
+            && closes(d, q, s, from + n, stop)
+        {
             return Some(FoundEnd {
                 at: from + n + 1,
                 clean: true,
@@ -104,8 +106,10 @@ fn plain_end(s: &[u8], at: usize, stop: usize, p: u8, q: u8) -> Option<FoundEnd>
 {
     if 8 <= stop - at {
         let w = swar::word(s, at);
-        let n = swar::guess(w, p);
-        if n < 8 && s[at + n] == p && n == swar::before_flag(swar::unclean(w, p, q)) {
+        if let Some(n) = swar::guess(w, p)
+            && s[at + n] == p
+            && n == swar::before_flag(swar::unclean(w, p, q))
+        {
             return Some(FoundEnd {
                 at: at + n,
                 clean: true,

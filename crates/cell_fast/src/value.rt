@@ -131,8 +131,10 @@ pub fn value_end(s: &[u8], at: usize, stop: usize) -> Option<usize>
     ensures { IfSome result (EndsBefore Csvj s.now stop Fresh at) }
 {
     if 8 <= stop - at {
-        let n = swar::guess(swar::word(s, at), b',');
-        if n < 8 && s[at + n] == b',' && is_number(s, at, at + n, stop) {
+        if let Some(n) = swar::guess(swar::word(s, at), b',')
+            && s[at + n] == b','
+            && is_number(s, at, at + n, stop)
+        {
             return Some(at + n);
         }
     }

@@ -1,5 +1,5 @@
 -- `cell_fast::plain_end` meets its contract: the guess is tested, and otherwise `plain_rest_end` finds the end.
-use Prim.Native.Nat.{◌+◌}
+use Prim.Native.Nat.{◌+◌, ◌<◌}
 use native.Mathlib.Omega.{arith}
 use mathlib.Core.Path.{◌≡◌, refl, sym, ◌∙◌}
 use mathlib.Core.Bool.{true}
@@ -13,10 +13,10 @@ use Rattle.cell_fast.proofs.TextRuns.{ascii_text}
 use Rattle.cell_fast.proofs.PlainCells.{plain_found}
 use Rattle.cell_fast.proofs.plain_end.Goals as goal
 
-pub returns-then-n-before_flag : goal.returns-then-n-before_flag
-returns-then-n-before_flag c = λ d m ep eq.
+pub returns-then-stop-at-ge8 : goal.returns-then-stop-at-ge8
+returns-then-stop-at-ge8 c = λ d m ep eq.
     let a = c.args in
-    let n = c.guess-n.result in
+    let n = c.in-Some.n in let below : n < 8 = c.in-Some.ensures in
     let passed =
     (pass_zeros (pass_none a.s.now a.at a.stop (omega arith)) (omega arith) c.word-w.ensures
     c.unclean.ensures n (c.if-n-before_flag.true ∙ c.before_flag.ensures)).1 in

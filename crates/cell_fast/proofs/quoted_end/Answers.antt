@@ -4,8 +4,8 @@ use Rattle.cell_fast.proofs.TextRuns.{quoted_run}
 use Rattle.cell_fast.proofs.QuotedCells.{quoted_found}
 use Rattle.cell_fast.proofs.quoted_end.Goals as goal
 
-pub returns-then-closes : goal.returns-then-closes
-returns-then-closes c =
+pub returns-in-Some : goal.returns-in-Some
+returns-in-Some c =
     let flagged = rw c.in-Some.is at c.clean_words-words.ensures.flags in
     let same = c.if-n-before_flag.true ∙ c.before_flag.ensures in
     let passed = rw (← same) at flagged.run in
