@@ -71,10 +71,7 @@ fn with_cell(
     if !has_kind(t, kind) {
         return Err(Fault::LacksKind { column });
     }
-    if !source::is_text(kind) {
-        return Ok(());
-    }
-    if lone {
+    if lone && source::is_text(kind) {
         return Err(Fault::LoneSurrogate { column });
     }
     Ok(())

@@ -36,10 +36,7 @@ pub fn is_direct(src: Source, t: Dialect) -> bool
 fn verbatim_span(direct: bool, number: u8, raw: &[u8]) -> Option<(usize, usize)>
     ensures { Looks direct (kind_from number) raw.now result }
 {
-    if !direct {
-        return None;
-    }
-    if number != 1 {
+    if !direct || number != 1 {
         return None;
     }
     let from = quotes::quotes_around(raw);

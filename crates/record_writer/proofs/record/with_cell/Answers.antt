@@ -7,7 +7,9 @@ use Rattle.model.specs.rules.Records.{has_kind}
 use Rattle.model.specs.rules.Text.{is_text}
 use Rattle.cell_decoder.specs.Sources.{kind_from}
 use Rattle.record_writer.proofs.Columns.{cell_lacks, cell_no_text, cell_lone, cell_sound, csvj_carries, or_fault, or_sound}
+use Rattle.model.proofs.Tests.{split_on, impossible}
 use Rattle.record_writer.proofs.record.with_cell.Goals as goal
+use Rattle.record_writer.proofs.record.with_cell.Goals.{else-lone-via-then-lone+else-is_text, else-lone-via-else-lone}
 
 pub returns-in_err-carries : goal.returns-in_err-carries
 returns-in_err-carries c content known =
@@ -25,24 +27,14 @@ returns-then-not-has_kind c content known =
     ap (has_kind a.t) (sym c.kind_of_number-kind.ensures) ∙ sym c.has_kind.ensures ∙ c.if-not-has_kind.true in
     sym (or_sound _ c.in_ok-carries.was ∙ cell_lacks a.t a.column (kind_from a.number) content lacks)
 
-pub returns-then-not-is_text : goal.returns-then-not-is_text
-returns-then-not-is_text c content known =
-    let a = c.args in
-    let has : has_kind a.t (kind_from a.number) ≡ true =
-    ap (has_kind a.t) (sym c.kind_of_number-kind.ensures) ∙ sym c.has_kind.ensures ∙ c.if-not-has_kind.false in
-    let no_text : is_text (kind_from a.number) ≡ false =
-    ap is_text (sym c.kind_of_number-kind.ensures) ∙ sym c.is_text.ensures ∙ c.if-not-is_text.true in
-    sym (or_sound _ c.in_ok-carries.was
-    ∙ cell_no_text a.t a.column (kind_from a.number) content has (sym c.is_csvj.ensures ∙ c.if-is_csvj.false) no_text)
-
-pub returns-then-lone : goal.returns-then-lone
-returns-then-lone c content known =
+pub returns-then-is_text : goal.returns-then-is_text
+returns-then-is_text c content known =
     let a = c.args in
     let has : has_kind a.t (kind_from a.number) ≡ true =
     ap (has_kind a.t) (sym c.kind_of_number-kind.ensures) ∙ sym c.has_kind.ensures ∙ c.if-not-has_kind.false in
     let other : is_csvj a.t ≡ false = sym c.is_csvj.ensures ∙ c.if-is_csvj.false in
     let text : is_text (kind_from a.number) ≡ true =
-    ap is_text (sym c.kind_of_number-kind.ensures) ∙ sym c.is_text.ensures ∙ c.if-not-is_text.false in
+    ap is_text (sym c.kind_of_number-kind.ensures) ∙ sym c.is_text.ensures ∙ c.if-is_text.true in
     sym (or_sound _ c.in_ok-carries.was
     ∙ cell_lone a.t a.column (kind_from a.number) content has other text (sym (known text other) ∙ c.if-lone.true))
 
@@ -52,7 +44,11 @@ returns c content known =
     let has : has_kind a.t (kind_from a.number) ≡ true =
     ap (has_kind a.t) (sym c.kind_of_number-kind.ensures) ∙ sym c.has_kind.ensures ∙ c.if-not-has_kind.false in
     let other : is_csvj a.t ≡ false = sym c.is_csvj.ensures ∙ c.if-is_csvj.false in
-    let text : is_text (kind_from a.number) ≡ true =
-    ap is_text (sym c.kind_of_number-kind.ensures) ∙ sym c.is_text.ensures ∙ c.if-not-is_text.false in
     sym (or_sound _ c.in_ok-carries.was
-    ∙ cell_sound a.t a.column (kind_from a.number) content has other text (sym (known text other) ∙ c.if-lone.false))
+    ∙ split_on (is_text (kind_from a.number))
+    (λ text. cell_sound a.t a.column (kind_from a.number) content has other text (sym (known text other) ∙ elim c.else-lone.branch [
+      | else-lone-via-then-lone+else-is_text w ↦
+          impossible (sym (ap is_text (sym c.kind_of_number-kind.ensures) ∙ sym w.is_text.ensures ∙ w.if-is_text.false) ∙ text)
+      | else-lone-via-else-lone w ↦ w.if-lone.false
+    ]))
+    (λ text. cell_no_text a.t a.column (kind_from a.number) content has other text))

@@ -14,9 +14,6 @@ use Rattle.record_writer.proofs.verbatim.verbatim_span.Goals as goal
 pub returns-then-not-direct : goal.returns-then-not-direct
 returns-then-not-direct c = looks_encoded
 
-pub returns-then-number-ne1 : goal.returns-then-number-ne1
-returns-then-number-ne1 c = looks_encoded
-
 pub overflow_sub-upto : goal.overflow_sub-upto
 overflow_sub-upto c = (quotes_inside c.quotes_around-from.ensures).0
 

@@ -1,13 +1,6 @@
 use native.Mathlib.Omega.{arith}
-use Rattle.model.proofs.Tests.{impossible}
-use Rattle.swar.proofs.Spans.{check_starts, check_word, check_last}
+use Rattle.swar.proofs.Spans.{check_word, check_last}
 use Rattle.record_writer.proofs.words.all_words.Goals as goal
-
-pub loop-i-init : goal.loop-i-init
-loop-i-init g c = (omega arith, c.requires.span.0, λ passes fit. check_starts c.args.raw.now c.requires.span.0)
-
-pub returns-then-unfit-ne0 : goal.returns-then-unfit-ne0
-returns-then-unfit-ne0 g c = λ passes fit e. impossible e
 
 pub loop-i-preserved : goal.loop-i-preserved
 loop-i-preserved g c = (

@@ -1,10 +1,7 @@
-use mathlib.Core.Path.{refl, sym, ◌∙◌}
+use mathlib.Core.Path.{sym, ◌∙◌}
 use native.Mathlib.Omega.{arith}
 use Rattle.record_writer.proofs.ByteMembership.{word_held, word_on}
 use Rattle.record_writer.proofs.clean.plus.holds_byte.Goals as goal
-
-pub loop-i-init : goal.loop-i-init
-loop-i-init c = (omega arith, refl)
 
 pub returns-then-same-ne0 : goal.returns-then-same-ne0
 returns-then-same-ne0 c =

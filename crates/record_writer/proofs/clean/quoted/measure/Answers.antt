@@ -2,23 +2,15 @@ use Prim.Native.Nat.{ℕ, ◌+◌}
 use mathlib.Core.Path.{refl, ap, ◌∙◌}
 use mathlib.Core.Bool.{false}
 use native.Mathlib.Omega.{arith}
-use lib.ListN.{get_or}
 use Rattle.model.specs.rules.Base.{choose◌then◌else◌}
 use Rattle.model.proofs.Tests.{impossible}
 use Rattle.buffer.specs.Writes.{measure}
 use Rattle.buffer.proofs.WriteProgress.{put_measured}
-use Rattle.record_writer.specs.Joined.{Lies}
 use Rattle.record_writer.proofs.Joined.{written_none, room_cell, put_cell, put_all}
 use Rattle.record_writer.proofs.clean.quoted.measure.Goals as goal
 
 pub loop-n-init : goal.loop-n-init
 loop-n-init c = written_none false (record { measured = λ _. c.requires.at_bound; inside = λ e. impossible e })
-
-pub column_length-requires : goal.column_length-requires
-column_length-requires c =
-    let at_n : (let a = c.args in let n = c.loop-n.n in Lies a.s.now (get_or a.starts.now n 0) (get_or a.ends.now n 0)) =
-    c.requires.spans.each c.loop-n.n (omega arith) in
-    (at_n).short
 
 pub measured-o-requires : goal.measured-o-requires
 measured-o-requires c = (room_cell c.requires.spans.with_ends c.loop-n.invariant (omega arith)).measured refl
