@@ -13,7 +13,7 @@ use Rattle.model.specs.declared.Fault.{Fault}
 use Rattle.model.specs.declared.Fault.TheVariants.{NoCells, TextTooLong, OutputTooLong}
 use Rattle.model.specs.rules.Types.{CheckResult}
 use Rattle.std.specs.Prelude.{Result, Ok, Err}
-use Rattle.core.specs.Result.{result_and}
+use Rattle.std.specs.Result.{result_and}
 use Rattle.model.specs.rules.Base.{Bytes, choose◌then◌else◌, is_empty}
 use Rattle.model.specs.rules.Dialect.{is_csvj, into}
 use Rattle.model.specs.rules.Text.{Value, record_text, ending}

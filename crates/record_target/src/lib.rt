@@ -18,7 +18,7 @@ ghost use Rattle.cell_decoder.specs.Sources.{cells_in, Cells};
 ghost use Rattle.record_check.specs.Keys.{NamesIn};
 ghost use Rattle.record_check.specs.SourceFault.{source_fault};
 ghost use Rattle.record_writer.specs.CleanRecord.{CleanRecord};
-ghost use Rattle.core.specs.Result.{result_and};
+ghost use Rattle.std.specs.Result.{result_and};
 ghost use Rattle.record_target.specs.Sized.{length_fault};
 
 use cell_decoder::source::Source;

@@ -5,7 +5,7 @@ use mathlib.Core.Bool.{and-false}
 use mathlib.Core.Logic.{inl, inr}
 use lib.Dec.{leb}
 use borrow.Author.Tests.{le-leb, lt-leb}
-use Rattle.core.specs.Char.{LowercasesTo}
+use Rattle.std.specs.Char.{LowercasesTo}
 use Rattle.model.specs.rules.Base.{choose◌then◌else◌}
 use Rattle.model.specs.rules.Records.{lower}
 use Rattle.record_check.proofs.names.fold_byte.Goals as goal
