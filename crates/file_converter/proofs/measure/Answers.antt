@@ -8,15 +8,6 @@ use Rattle.file_converter.proofs.measure.Goals as goal
 pub loop-v-init : goal.loop-v-init
 loop-v-init c = (sets_out _ _ _ _ c.at_start-cursor.ensures, record { at_starts = refl; at_ends = refl; at_kinds = refl })
 
-pub slice_bounds-next_data_record-end : goal.slice_bounds-next_data_record-end
-slice_bounds-next_data_record-end c = c.loop-v.invariant.1.at_starts
-
-pub slice_bounds-next_data_record-end-in-loop-v : goal.slice_bounds-next_data_record-end-in-loop-v
-slice_bounds-next_data_record-end-in-loop-v c = c.loop-v.invariant.1.at_ends
-
-pub slice_bounds-next_data_record-end-in-loop-v-2 : goal.slice_bounds-next_data_record-end-in-loop-v-2
-slice_bounds-next_data_record-end-in-loop-v-2 c = c.loop-v.invariant.1.at_kinds
-
 pub next_data_record-requires : goal.next_data_record-requires
 next_data_record-requires c =
     let inv = c.loop-v.invariant in
@@ -34,21 +25,6 @@ loop-v-preserved-in-Some c =
     let inv = c.loop-v.invariant in
     let r = data_came (c.next_data_record.ensures.fast_next_sound _ (by_fields inv.0.after)) c.in-Some.is in
     (walks_on inv.0 r.next, full_kept inv.1 c.next_data_record.ensures.same_lengths)
-
-pub slice_bounds-next_record-end : goal.slice_bounds-next_record-end
-slice_bounds-next_record-end c =
-    let inv = c.loop-v.invariant in
-    (full_kept inv.1 c.next_data_record.ensures.same_lengths).at_starts
-
-pub slice_bounds-next_record-end-in-None : goal.slice_bounds-next_record-end-in-None
-slice_bounds-next_record-end-in-None c =
-    let inv = c.loop-v.invariant in
-    (full_kept inv.1 c.next_data_record.ensures.same_lengths).at_ends
-
-pub slice_bounds-next_record-end-in-None-2 : goal.slice_bounds-next_record-end-in-None-2
-slice_bounds-next_record-end-in-None-2 c =
-    let inv = c.loop-v.invariant in
-    (full_kept inv.1 c.next_data_record.ensures.same_lengths).at_kinds
 
 pub next_record-requires : goal.next_record-requires
 next_record-requires c =

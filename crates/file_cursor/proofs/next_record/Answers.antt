@@ -26,12 +26,6 @@ finish_record-requires-in-LastRecord c =
     let under : c.args.cursor.offset ≤ 16777215 = c.requires.offset_in_bounds.1 in
     record { long = now_long m; cells = now_stand m _ (last_counts m c.in-LastRecord.is); done_bound = (omega arith, c.requires.done_le_offset.1) }
 
-pub overflow_add-cursor : goal.overflow_add-cursor
-overflow_add-cursor c =
-    let done : c.args.cursor.done ≤ c.args.cursor.offset = c.requires.done_le_offset.0 in
-    let under : c.args.cursor.offset ≤ 16777215 = c.requires.offset_in_bounds.1 in
-    omega arith
-
 pub returns-in-Completed : goal.returns-in-Completed
 returns-in-Completed c =
     let n = c.scan_next.ensures in
