@@ -1,5 +1,5 @@
 use mathlib.Core.Path.{refl}
-use Rattle.file_cursor.proofs.Traversal.{at_value, by_fields, walk_bounds, walk_less, came, full_long, full_kept}
+use Rattle.file_cursor.proofs.Traversal.{at_value, by_fields, walk_less, came, full_kept}
 use Rattle.file_cursor.proofs.FastNext.{data_came}
 use Rattle.file_converter.proofs.Passes.{fills, room_there, fills_on, room_data, fills_data, filled_all, never_refused}
 use Rattle.file_converter.proofs.write_records.Goals as goal
@@ -7,35 +7,17 @@ use Rattle.file_converter.proofs.write_records.Goals as goal
 pub loop-v-init : goal.loop-v-init
 loop-v-init c = (fills _ _ _ _ _ c.at_start-cursor.ensures, record { at_starts = refl; at_ends = refl; at_kinds = refl })
 
-pub next_data_record-requires : goal.next_data_record-requires
-next_data_record-requires c =
-    let inv = c.loop-v.invariant in
-    let b = walk_bounds inv.0.walk in
-    record { from_in_bounds = b.0; done_le_from = b.1; long = full_long inv.1 }
-
 pub write_data-at-requires : goal.write_data-at-requires
 write_data-at-requires c =
     let inv = c.loop-v.invariant in
     let r = data_came (c.next_data_record.ensures.fast_next_sound _ (by_fields inv.0.walk.after)) c.in-Some.is in
     record { cells = r.next.stand; clean_in = r.cleans; room = room_data inv.0 c.requires r.next r.later }
 
-pub loop-v-smaller-in-Some : goal.loop-v-smaller-in-Some
-loop-v-smaller-in-Some c =
-    let inv = c.loop-v.invariant in
-    let r = data_came (c.next_data_record.ensures.fast_next_sound _ (by_fields inv.0.walk.after)) c.in-Some.is in
-    walk_less inv.0.walk r.next
-
 pub loop-v-preserved-in-Some : goal.loop-v-preserved-in-Some
 loop-v-preserved-in-Some c =
     let inv = c.loop-v.invariant in
     let r = data_came (c.next_data_record.ensures.fast_next_sound _ (by_fields inv.0.walk.after)) c.in-Some.is in
     (fills_data inv.0 c.requires r.next r.later c.write_data-at.ensures, full_kept inv.1 c.next_data_record.ensures.same_lengths)
-
-pub next_record-requires : goal.next_record-requires
-next_record-requires c =
-    let inv = c.loop-v.invariant in
-    let b = walk_bounds inv.0.walk in
-    record { offset_in_bounds = b.0; done_le_offset = b.1; long = full_long (full_kept inv.1 c.next_data_record.ensures.same_lengths) }
 
 pub write_record-at-requires : goal.write_record-at-requires
 write_record-at-requires c =

@@ -10,9 +10,6 @@ returns-then-cells-gt-MAX_COLUMNS c =
     too_many a.d a.target a.file.now a.starts.now a.ends.now a.kinds.now a.cursor a.start a.cells a.state a.next rs vs y z
     _ c.if-cells-gt-MAX_COLUMNS.true c.record_report.ensures
 
-pub check_record-requires : goal.check_record-requires
-check_record-requires c = record { cells = c.requires.cells c.if-cells-gt-MAX_COLUMNS.false; written_bound = c.requires.done_bound.1 }
-
 pub returns-in-Ok : goal.returns-in-Ok
 returns-in-Ok c =
     let a = c.args in

@@ -1,4 +1,4 @@
-use Rattle.file_reader.proofs.PassInvariant.{goes, held_lengths, record_on, record_refused}
+use Rattle.file_reader.proofs.PassInvariant.{goes, record_on, record_refused}
 use Rattle.file_reader.proofs.PassInvariant.{last_accepted, fault_refused, finish_accepted}
 use Rattle.file_reader.proofs.pass.data_records.Goals as goal
 
@@ -6,13 +6,6 @@ pub loop-start-init : goal.loop-start-init
 loop-start-init c =
     let q = c.requires.from_in_bounds in
     goes _ q.0 q.1
-
-pub next_data-requires : goal.next_data-requires
-next_data-requires c =
-    let l = c.loop-start in
-    let n = held_lengths l.invariant.lists in
-    let q = c.requires.room_in_bounds in
-    record { from_in_bounds = (l.invariant.inside, l.invariant.under, l.invariant.few); room_in_bounds = (rw n.0 q.0, rw n.1 q.1, rw n.2 q.2) }
 
 pub returns-then-last : goal.returns-then-last
 returns-then-last c =
