@@ -1,5 +1,5 @@
 -- `file_converter::convert_in` meets its contract, by the result of the first pass and the length of the room.
-use Rattle.file_converter.proofs.ConverterAnswers.{conversion_refused, conversion_crowded, conversion_accepts, conversion_roomy, long_filled}
+use Rattle.file_converter.proofs.ConverterAnswers.{conversion_refused, conversion_crowded, conversion_accepts, conversion_roomy}
 use Rattle.file_converter.proofs.convert_in.Goals as goal
 
 pub returns-then-room-length : goal.returns-then-room-length
@@ -22,13 +22,6 @@ returns-in-Err c =
     let o = conversion_refused a.d a.t a.file.now a.room.now c.measure.ensures _
     c.in-Err.is _ c.refusal.ensures in
     record { value = o.answer; room_after = o.left }
-
-pub shape_of-room : goal.shape_of-room
-shape_of-room c =
-    let a = c.args in
-    long_filled a.d a.t a.file.now a.room.now
-    (conversion_accepts a.d a.t a.file.now a.room.now c.measure.ensures _
-    c.in-Ok.is c.if-room-length.false) _ c.write_records.ensures
 
 pub returns-else-room-length : goal.returns-else-room-length
 returns-else-room-length c =

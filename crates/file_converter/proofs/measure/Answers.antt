@@ -1,6 +1,6 @@
 use mathlib.Core.Path.{refl}
 use Rattle.std.proofs.lemmas.Result.{err_from_is_err_and}
-use Rattle.file_cursor.proofs.Traversal.{at_value, by_fields, sets_out, walks_on, walk_bounds, walk_less, came, full_long, full_kept}
+use Rattle.file_cursor.proofs.Traversal.{at_value, by_fields, sets_out, walks_on, came, full_kept}
 use Rattle.file_cursor.proofs.FastNext.{data_came}
 use Rattle.file_converter.proofs.Passes.{measured_all, measured_refused}
 use Rattle.file_converter.proofs.measure.Goals as goal
@@ -8,59 +8,11 @@ use Rattle.file_converter.proofs.measure.Goals as goal
 pub loop-v-init : goal.loop-v-init
 loop-v-init c = (sets_out _ _ _ _ c.at_start-cursor.ensures, record { at_starts = refl; at_ends = refl; at_kinds = refl })
 
-pub slice_bounds-next_data_record-end : goal.slice_bounds-next_data_record-end
-slice_bounds-next_data_record-end c = c.loop-v.invariant.1.at_starts
-
-pub slice_bounds-next_data_record-end-in-loop-v : goal.slice_bounds-next_data_record-end-in-loop-v
-slice_bounds-next_data_record-end-in-loop-v c = c.loop-v.invariant.1.at_ends
-
-pub slice_bounds-next_data_record-end-in-loop-v-2 : goal.slice_bounds-next_data_record-end-in-loop-v-2
-slice_bounds-next_data_record-end-in-loop-v-2 c = c.loop-v.invariant.1.at_kinds
-
-pub next_data_record-requires : goal.next_data_record-requires
-next_data_record-requires c =
-    let inv = c.loop-v.invariant in
-    let b = walk_bounds inv.0 in
-    record { from_in_bounds = b.0; done_le_from = b.1; long = full_long inv.1 }
-
-pub loop-v-smaller-in-Some : goal.loop-v-smaller-in-Some
-loop-v-smaller-in-Some c =
-    let inv = c.loop-v.invariant in
-    let r = data_came (c.next_data_record.ensures.fast_next_sound _ (by_fields inv.0.after)) c.in-Some.is in
-    walk_less inv.0 r.next
-
 pub loop-v-preserved-in-Some : goal.loop-v-preserved-in-Some
 loop-v-preserved-in-Some c =
     let inv = c.loop-v.invariant in
     let r = data_came (c.next_data_record.ensures.fast_next_sound _ (by_fields inv.0.after)) c.in-Some.is in
     (walks_on inv.0 r.next, full_kept inv.1 c.next_data_record.ensures.same_lengths)
-
-pub slice_bounds-next_record-end : goal.slice_bounds-next_record-end
-slice_bounds-next_record-end c =
-    let inv = c.loop-v.invariant in
-    (full_kept inv.1 c.next_data_record.ensures.same_lengths).at_starts
-
-pub slice_bounds-next_record-end-in-None : goal.slice_bounds-next_record-end-in-None
-slice_bounds-next_record-end-in-None c =
-    let inv = c.loop-v.invariant in
-    (full_kept inv.1 c.next_data_record.ensures.same_lengths).at_ends
-
-pub slice_bounds-next_record-end-in-None-2 : goal.slice_bounds-next_record-end-in-None-2
-slice_bounds-next_record-end-in-None-2 c =
-    let inv = c.loop-v.invariant in
-    (full_kept inv.1 c.next_data_record.ensures.same_lengths).at_kinds
-
-pub next_record-requires : goal.next_record-requires
-next_record-requires c =
-    let inv = c.loop-v.invariant in
-    let b = walk_bounds inv.0 in
-    record { offset_in_bounds = b.0; done_le_offset = b.1; long = full_long (full_kept inv.1 c.next_data_record.ensures.same_lengths) }
-
-pub loop-v-smaller : goal.loop-v-smaller
-loop-v-smaller c =
-    let inv = c.loop-v.invariant in
-    let n = came (c.next_record.ensures.next_record_sound _ inv.0.after) (at_value c.in_ok-v-in-None.was c.in-Some-2.is) in
-    walk_less inv.0 n
 
 pub loop-v-preserved : goal.loop-v-preserved
 loop-v-preserved c =

@@ -1,12 +1,8 @@
 -- `file_cursor::check_record` meets its contract: the source's check result first, then the target's.
 use mathlib.Core.Path.{sym, ◌∙◌}
 use Rattle.std.proofs.lemmas.Result.{err_from_is_err_and}
-use Rattle.model.proofs.Tests.{impossible}
 use Rattle.file_cursor.proofs.RecordChecks.{source_checked, asked_faulty, asked_reading, asked_both}
 use Rattle.file_cursor.proofs.check_record.Goals as goal
-
-pub check_record-requires : goal.check_record-requires
-check_record-requires c = record { cells = c.requires.cells; clean_record = λ e. impossible e; written_bound = c.requires.written_bound }
 
 pub returns-in_err-check-in-None : goal.returns-in_err-check-in-None
 returns-in_err-check-in-None c =

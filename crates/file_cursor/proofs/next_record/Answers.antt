@@ -1,36 +1,19 @@
 -- `file_cursor::next_record` meets its contract, by the event of the scanner.
-use native.Mathlib.Omega.{arith}
-use Prim.Native.Nat.{◌≤◌}
-use Rattle.file_cursor.proofs.NextRecords.{met, now_kept, now_long, now_stand, now_shown, record_counts, last_counts, record_visited}
+use Rattle.file_cursor.proofs.NextRecords.{met, now_kept, now_stand, now_shown, record_counts, last_counts, record_visited}
 use Rattle.file_cursor.proofs.NextRecords.{last_visited, fault_visited, end_visited}
 use Rattle.file_cursor.proofs.next_record.Goals as goal
 
-pub scan_next-requires : goal.scan_next-requires
-scan_next-requires c =
-    let q = c.requires in
-    record { from_in_bounds = (q.offset_in_bounds.0, q.offset_in_bounds.1, omega arith); room_in_bounds = (q.long.at_starts, q.long.at_ends, q.long.at_kinds) }
-
-pub finish_record-requires : goal.finish_record-requires
-finish_record-requires c =
+pub finish_record-requires-clause-cells : goal.finish_record-requires-clause-cells
+finish_record-requires-clause-cells c =
     let n = c.scan_next.ensures in
     let m = met c.requires.offset_in_bounds.2 c.requires.offset_in_bounds.0 c.requires.long n.value n.starts_after n.ends_after n.kinds_after n.event_in_bounds in
-    let done : c.args.cursor.done ≤ c.args.cursor.offset = c.requires.done_le_offset.0 in
-    let under : c.args.cursor.offset ≤ 16777215 = c.requires.offset_in_bounds.1 in
-    record { long = now_long m; cells = now_stand m _ (record_counts m c.in-Completed.is); done_bound = (omega arith, c.requires.done_le_offset.1) }
+    now_stand m _ (record_counts m c.in-Completed.is)
 
-pub finish_record-requires-in-LastRecord : goal.finish_record-requires-in-LastRecord
-finish_record-requires-in-LastRecord c =
+pub finish_record-requires-in-LastRecord-clause-cells : goal.finish_record-requires-in-LastRecord-clause-cells
+finish_record-requires-in-LastRecord-clause-cells c =
     let n = c.scan_next.ensures in
     let m = met c.requires.offset_in_bounds.2 c.requires.offset_in_bounds.0 c.requires.long n.value n.starts_after n.ends_after n.kinds_after n.event_in_bounds in
-    let done : c.args.cursor.done ≤ c.args.cursor.offset = c.requires.done_le_offset.0 in
-    let under : c.args.cursor.offset ≤ 16777215 = c.requires.offset_in_bounds.1 in
-    record { long = now_long m; cells = now_stand m _ (last_counts m c.in-LastRecord.is); done_bound = (omega arith, c.requires.done_le_offset.1) }
-
-pub overflow_add-cursor : goal.overflow_add-cursor
-overflow_add-cursor c =
-    let done : c.args.cursor.done ≤ c.args.cursor.offset = c.requires.done_le_offset.0 in
-    let under : c.args.cursor.offset ≤ 16777215 = c.requires.offset_in_bounds.1 in
-    omega arith
+    now_stand m _ (last_counts m c.in-LastRecord.is)
 
 pub returns-in-Completed : goal.returns-in-Completed
 returns-in-Completed c =

@@ -1,24 +1,12 @@
 -- `file_reader::read_in` meets its contract, by the cursor's result for the header.
-use mathlib.Core.Path.{refl}
 use lib.ListN.{length}
-use Rattle.std.specs.Prelude.{None}
-use Rattle.file_cursor.proofs.Traversal.{at_value, sets_out, walk_bounds, full_long}
+use Rattle.file_cursor.proofs.Traversal.{at_value}
 use Rattle.file_reader.proofs.ReaderAnswers.{from_start, begins, no_header, no_records, shortest}
 use Rattle.file_reader.proofs.read_in.Goals as goal
 
-pub next_record-requires : goal.next_record-requires
-next_record-requires c =
-    let a = c.args in
-    let b = walk_bounds (sets_out a.d None a.file.now _ c.at_start.ensures) in
-    record { offset_in_bounds = b.0; done_le_offset = b.1; long = full_long (record { at_starts = refl; at_ends = refl; at_kinds = refl }) }
-
-pub read_records-requires : goal.read_records-requires
-read_records-requires c =
-    let q = c.at_start.ensures in
-    let a = c.args in
-    let lengths = shortest (length a.starts.now) (length a.ends.now) (length a.kinds.now) in
-    let m = lengths _ _ c.min.ensures c.min-room.ensures in
-    record { header_read = begins (from_start q c.next_record.ensures.next_record_sound) (at_value c.in-Ok-Some.is c.in-Ok-Some.field-0-is); room_in_bounds = m.1 }
+pub read_records-requires-clause-header_read : goal.read_records-requires-clause-header_read
+read_records-requires-clause-header_read c =
+    begins (from_start c.at_start.ensures c.next_record.ensures.next_record_sound) (at_value c.in-Ok-Some.is c.in-Ok-Some.field-0-is)
 
 pub returns-in-Ok-Some : goal.returns-in-Ok-Some
 returns-in-Ok-Some c =

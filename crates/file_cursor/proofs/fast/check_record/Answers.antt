@@ -1,5 +1,5 @@
 -- The checks of a data record are those of the cursor: after some records the next is no header.
-use mathlib.Core.Path.{◌≡◌, sym, ap, ◌∙◌}
+use mathlib.Core.Path.{◌≡◌, ap, ◌∙◌}
 use mathlib.Core.Bool.{Bool, false}
 use mathlib.Core.List.{◌++◌}
 use lib.ListN.{length}
@@ -27,8 +27,8 @@ returns-in_err-data c =
     let p = err_from_is_err_and c.from_residual.result c.from_residual.ensures.1 in
     rw (p.1, p.2) (asked_faulty a.d a.cursor cells _ source a.target _ c.in_err-data.was)
 
-pub check_target-requires : goal.check_target-requires
-check_target-requires c = record { cells = c.requires.cells; clean_record = λ e. clean_data (c.requires.clean_in e); written_bound = c.requires.fact.1 }
+pub check_target-requires-clause-clean_record : goal.check_target-requires-clause-clean_record
+check_target-requires-clause-clean_record c = λ e. clean_data (c.requires.clean_in e)
 
 pub returns-in-None : goal.returns-in-None
 returns-in-None c =
