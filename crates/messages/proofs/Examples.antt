@@ -4,18 +4,19 @@ use Rattle.model.specs.rules.Base.{choose◌then◌else◌, same}
 use Rattle.model.specs.laws.Ascii.{ascii}
 use Rattle.model.specs.rules.Records.{name_key}
 use Rattle.model.specs.rules.Report.{report}
+use Rattle.std.specs.Prelude.{Some, None}
 use Rattle.messages.specs.Words.{dialect_named}
 use Rattle.messages.specs.Sentences.{sentence_of, sentences_compute}
 
-upper_case : dialect_named (ascii "CSV+") ≡ 3
+upper_case : dialect_named (ascii "CSV+") ≡ Some 3
 unfolding dialect_named ascii same name_key choose◌then◌else◌
 upper_case = refl
 
-by_number : dialect_named (ascii "2") ≡ 2
+by_number : dialect_named (ascii "2") ≡ Some 2
 unfolding dialect_named ascii same name_key choose◌then◌else◌
 by_number = refl
 
-no_name : dialect_named (ascii "csv") ≡ 0
+no_name : dialect_named (ascii "csv") ≡ None
 unfolding dialect_named ascii same name_key choose◌then◌else◌
 no_name = refl
 

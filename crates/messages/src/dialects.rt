@@ -43,18 +43,18 @@ fn names(word: &[u8], name: &[u8], number: &[u8]) -> bool
     is_word(word, number)
 }
 
-// The number of the dialect that a word names, 0 if it names none.
-pub fn dialect_named(word: &[u8]) -> u32
+// The number of the dialect that a word names, if it names one.
+pub fn dialect_named(word: &[u8]) -> Option<u32>
     ensures { result ≡ dialect_named word.now }
 {
     if names(word, b"csvj", b"1") {
-        return 1;
+        return Some(1);
     }
     if names(word, b"tdif", b"2") {
-        return 2;
+        return Some(2);
     }
     if names(word, b"csv+", b"3") {
-        return 3;
+        return Some(3);
     }
-    0
+    None
 }
