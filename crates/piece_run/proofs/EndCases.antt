@@ -20,12 +20,11 @@ use Rattle.buffer.proofs.WriteProgress.{written_first}
 use Rattle.piece_state.specs.Sound.{InOrder, order_end, order_next}
 use Rattle.piece_state.specs.CurrentRecord.{CurrentRecord}
 use Rattle.piece_state.specs.declared.place.Place.{Place}
-use Rattle.piece_step.specs.Types.{Dialect, Target, Begin, Final, Fault, TooManyColumns, Sound, Faulty}
-use Rattle.piece_record.specs.declared.RecordResult.{RecordResult}
-use Rattle.piece_record.specs.declared.RecordResult.TheVariants.{Written, Refused, Invalid}
+use Rattle.piece_step.specs.Types.{Dialect, Target, Begin, Final, Fault, TooManyColumns, Ok, Err}
+use Rattle.piece_record.specs.declared.RecordError.TheVariants.{Refused, Invalid}
 use Rattle.piece_step.specs.declared.CallResult.{CallResult}
 use Rattle.piece_step.specs.Invariant.{read_at, StateInvariant}
-use Rattle.piece_record.specs.Completion.{fault_at, text_at, FinishSound, is_written, is_refused, has_no_room, CompleteSound, not_encoded, ruled, buffered_values}
+use Rattle.piece_record.specs.Completion.{RecordResult, fault_at, text_at, FinishSound, is_written, is_refused, has_no_room, CompleteSound, not_encoded, ruled, buffered_values}
 use Rattle.piece_step.specs.Calls.{CallStart, Finished}
 use Rattle.piece_step.proofs.Writes.{end_room, new_length, new_none, new_more, grows_none, grows_more}
 use Rattle.piece_step.proofs.BufferedParts.{order_append}
@@ -94,7 +93,7 @@ last_order ends last fill h l =
 
 -- its text ends in the output, from any state
 pub last_room :
-    {d : Dialect} {t : Target} {p : Place} {bytes ends out out' : List ℕ} {end : ℕ} → CompleteSound d t p bytes ends 0 out out' (Written end) → end ≤ length out
+    {d : Dialect} {t : Target} {p : Place} {bytes ends out out' : List ℕ} {end : ℕ} → CompleteSound d t p bytes ends 0 out out' (Ok end) → end ≤ length out
 last_room (not_encoded z w y) = let x : ◌≡◌ {A = ℕ} 0 1 = cc in absurd (omega arith)
 last_room (ruled (is_written v l w e)) = omega arith
 
@@ -107,7 +106,7 @@ module _ (d : Dialect) (t : Target) (p : Place) (bytes ends out : List ℕ) (don
   counted = omega (arith, length-append k.cells (record { from = k.opened; upto = p.offset; bytes = k.raw } ∷ []), hold.cells)
 
   refuses :
-      (x : Fault) (ws : List Value) (r : CallResult) → SameCells ws (last_values d t p done k) → fault_at d t p ws ≡ Faulty x → r.place ≡ p →
+      (x : Fault) (ws : List Value) (r : CallResult) → SameCells ws (last_values d t p done k) → fault_at d t p ws ≡ Err x → r.place ≡ p →
       r.report ≡ report (number_of x) (p.records + 1) (column_of x) p.start → r.length ≡ 0 → Finished d t p done k out out r
   refuses x ws r same q s g l =
       finish_fault d t p done k out r x (last_faulty d t p done k hold e ws same x q) s (g ∙ sym (last_reports d t p done k hold e ws same x q)) l
@@ -138,7 +137,7 @@ module _ (d : Dialect) (t : Target) (p : Place) (bytes ends out : List ℕ) (don
     same_theirs = rw counted at (kept_same hand d)
 
     -- the text
-    module _ (v : fault_at d t p theirs ≡ Sound) where
+    module _ (v : fault_at d t p theirs ≡ Ok tt) where
       reads : read_last d t p done k ≡ going (between_records (done_last d t p done k) Begin p.offset)
       reads = last_sound d t p done k hold e theirs same_theirs v
 
@@ -169,17 +168,17 @@ module _ (d : Dialect) (t : Target) (p : Place) (bytes ends out : List ℕ) (don
           }
 
     abbrev pub Told : List ℕ → RecordResult → CallResult → Type 0
-    Told out' (Written end) r = (r.report ≡ accepted) × (r.length ≡ end) × (r.place ≡ p)
-    Told out' (Refused x) r = (r.report ≡ report (number_of x) (p.records + 1) (column_of x) p.start) × (r.length ≡ 0) × (r.place ≡ p)
-    Told out' Invalid r = Unit {0}
+    Told out' (Ok end) r = (r.report ≡ accepted) × (r.length ≡ end) × (r.place ≡ p)
+    Told out' (Err (Refused x)) r = (r.report ≡ report (number_of x) (p.records + 1) (column_of x) p.start) × (r.length ≡ 0) × (r.place ≡ p)
+    Told out' (Err Invalid) r = Unit {0}
 
     finishing :
         (out' : List ℕ) (x : RecordResult) (r : CallResult) → FinishSound (fault_at d t p theirs) (text_at t p theirs) 0 out out' x → Told out' x r →
         Finished d t p done k out out' r
-    finishing out' (Written end) r (is_written v l w q) g = written_last v out' r w (g.1 ∙ q) g.2 g.0
-    finishing out' (Refused x) r (is_refused v w) g =
+    finishing out' (Ok end) r (is_written v l w q) g = written_last v out' r w (g.1 ∙ q) g.2 g.0
+    finishing out' (Err (Refused x)) r (is_refused v w) g =
         subst (λ (z : List ℕ). Finished d t p done k out z r) (sym w) (refuses x theirs r same_theirs v g.2 g.0 g.1)
-    finishing out' Invalid r (has_no_room v l w) g = absurd (omega (arith, fits v, b.room))
+    finishing out' (Err Invalid) r (has_no_room v l w) g = absurd (omega (arith, fits v, b.room))
 
     pub finish_kept :
         (out' : List ℕ) (x : RecordResult) (r : CallResult) → CompleteSound d t p bytes (take (p.cells + 1) ends') 0 out out' x → Told out' x r →

@@ -19,7 +19,7 @@ use Rattle.model.specs.laws.RoundTrips.{SameCells}
 use Rattle.model.proofs.cell_laws.Cells.{cell_at, EndsAfter, ends_clean, ends_final, ends_cut, file_ends}
 use Rattle.model.proofs.cell_laws.CellRuns.{runs_sound, all_snoc}
 use Rattle.model.proofs.piece_laws.ScanLaws.{values_closing}
-use Rattle.piece_step.specs.Types.{Dialect, Target, Begin, Ending, Clean, Final, Cut, Fault, NoRecord, CutShort, Sound, Faulty}
+use Rattle.piece_step.specs.Types.{Dialect, Target, Begin, Ending, Clean, Final, Cut, Fault, NoRecord, CutShort, Ok, Err}
 use Rattle.piece_state.specs.declared.place.Place.{Place}
 use Rattle.piece_step.specs.Invariant.{IsWhole, scan_at, read_at, StateInvariant}
 use Rattle.piece_record.specs.Completion.{fault_at, text_at}
@@ -93,19 +93,19 @@ module _ (d : Dialect) (t : Target) (p : Place) (done : List Rec) (k : Buffered)
         fault_last : fault_at d t p ws ≡ record_fault d (Some t) done last_values
         fault_last = fault_of d t p done h.records h.columns h.written ws last_values same
 
-        pub last_faulty : (x : Fault) → fault_at d t p ws ≡ Faulty x → read_last ≡ stopped x (read_at d p done k)
+        pub last_faulty : (x : Fault) → fault_at d t p ws ≡ Err x → read_last ≡ stopped x (read_at d p done k)
         unfolding complete
-        last_faulty x q = let f : record_fault d (Some t) done last_values ≡ Faulty x = sym fault_last ∙ q in completes_last ∙ rw f
+        last_faulty x q = let f : record_fault d (Some t) done last_values ≡ Err x = sym fault_last ∙ q in completes_last ∙ rw f
 
         pub last_reports :
-            (x : Fault) → fault_at d t p ws ≡ Faulty x → fault_report x (read_at d p done k) ≡ report (number_of x) (p.records + 1) (column_of x) p.start
+            (x : Fault) → fault_at d t p ws ≡ Err x → fault_report x (read_at d p done k) ≡ report (number_of x) (p.records + 1) (column_of x) p.start
         last_reports x q =
             report_start x (read_at d p done k) p.records (fault_start d t p ws x q) (sym h.records)
             ∙ ap (report (number_of x) (p.records + 1) (column_of x)) (sym h.starts)
 
-        pub last_sound : fault_at d t p ws ≡ Sound → read_last ≡ going (between_records done_last Begin p.offset)
+        pub last_sound : fault_at d t p ws ≡ Ok tt → read_last ≡ going (between_records done_last Begin p.offset)
         unfolding complete
-        last_sound q = let f : record_fault d (Some t) done last_values ≡ Sound = sym fault_last ∙ q in completes_last ∙ rw f
+        last_sound q = let f : record_fault d (Some t) done last_values ≡ Ok tt = sym fault_last ∙ q in completes_last ∙ rw f
 
         pub last_text : text_at t p ws ≡ record_text t (is_empty done) last_values ++ ending t.dialect
         last_text = text_of d t p done h.records ws last_values same

@@ -23,8 +23,7 @@ use Rattle.piece_step.proofs.CallStart.{first_current, second_current, begun_lat
 use Rattle.piece_step.proofs.Writes.{grows_none}
 use Rattle.piece_step.proofs.BufferedSpans.{named_none, scan_grows, named_grows}
 use Rattle.piece_step.specs.InCell.{InCellSound, all_buffered_lem, not_found}
-use Rattle.piece_step.specs.declared.in_cell.InCellStep.{InCellStep}
-use Rattle.piece_step.specs.declared.in_cell.InCellStep.TheVariants as cell
+use Rattle.std.specs.Prelude.{Option, None, Some}
 use Rattle.piece_run.specs.Runs.{StepsSoFar, Entered, StepsSound, proceeds_all, proceeds_fault}
 use Rattle.piece_run.proofs.Runs.{run_begins, Since, walk_more, walk_on, walk_pends}
 use Rattle.piece_run.specs.PieceRun.{PieceRunSound, took_all, took_fault}
@@ -33,9 +32,9 @@ use Rattle.piece_run.specs.PieceRun.{PieceRunSound, took_all, took_fault}
 
 -- where the fast path found it, no step is left
 pub cell_buffered :
-    {d : Dialect} {t : Target} {piece : Bytes} {place : Place} {done : List Rec} {k : Buffered} {out bytes ends bytes' : List ℕ} {r : InCellStep}
+    {d : Dialect} {t : Target} {piece : Bytes} {place : Place} {done : List Rec} {k : Buffered} {out bytes ends bytes' : List ℕ} {r : Option Place}
     {q : Place} {e : Report}
-    (w : StepsSoFar d t piece place done k out 0 place bytes ends out 0) → InCellSound d piece place bytes ends bytes' r → r ≡ cell.Buffered q → e ≡ accepted →
+    (w : StepsSoFar d t piece place done k out 0 place bytes ends out 0) → InCellSound d piece place bytes ends bytes' r → r ≡ Some q → e ≡ accepted →
     StepsSound d t piece place done k w.done' out bytes' ends out (record { place = q; report = e; length = 0 })
 cell_buffered {d} {t} {piece} {place} {done} {k} {out} {ends = ends} {bytes' = bytes'} {q = q} {e = e} w (all_buffered_lem {q = q'} b turns) z a =
     let same : q' ≡ q = cc in
@@ -44,8 +43,8 @@ cell_buffered {d} {t} {piece} {place} {done} {k} {out} {ends = ends} {bytes' = b
 cell_buffered w (not_found s) z a = let y : ◌≡◌ {A = ℕ} 0 1 = cc in absurd (omega arith)
 
 pub cell_nothing :
-    {d : Dialect} {piece : Bytes} {place : Place} {bytes ends bytes' : List ℕ} {r : InCellStep} → InCellSound d piece place bytes ends bytes' r →
-    r ≡ cell.Fallback → bytes' ≡ bytes
+    {d : Dialect} {piece : Bytes} {place : Place} {bytes ends bytes' : List ℕ} {r : Option Place} → InCellSound d piece place bytes ends bytes' r →
+    r ≡ None → bytes' ≡ bytes
 cell_nothing (all_buffered_lem b turns) z = let y : ◌≡◌ {A = ℕ} 0 1 = cc in absurd (omega arith)
 cell_nothing (not_found s) z = s
 

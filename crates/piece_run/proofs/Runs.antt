@@ -3,7 +3,7 @@
 use Prim.Native.Nat.{ℕ, ◌+◌, ◌≤◌, ◌<◌}
 use native.Mathlib.Omega.{arith}
 use mathlib.Core.Path.{◌≡◌, refl, sym, ap, ap₂, subst, ◌∙◌}
-use Rattle.std.specs.Prelude.{Some}
+use Rattle.std.specs.Prelude.{Option, None, Some}
 use mathlib.Core.List.{List, [], ◌∷◌, ◌++◌, append_assoc}
 use lib.ListN.{length, take, drop, length-append}
 use lib.Seq.{take-append_seam, drop-append-add, drop-drop}
@@ -22,9 +22,8 @@ use Rattle.piece_step.specs.Invariant.{read_at, StateInvariant}
 use Rattle.piece_step.specs.Steps.{InBounds, StepReady, StepInBounds, next_bounds, pending_bounds, StepSound, steps_next, steps_pending, steps_stopped}
 use Rattle.piece_step.specs.Steps.{steps_nowhere}
 use Rattle.piece_step.specs.Calls.{CallStart, CountsRecords}
-use Rattle.piece_step.specs.declared.fast.FastStep.{FastStep}
-use Rattle.piece_step.specs.declared.fast.FastStep.TheVariants as quick
-use Rattle.piece_step.specs.FastSteps.{FastStepReady, FastStepInBounds, next_in_bounds, nothing_in_bounds, FastStepSound, a_record, nothing}
+use Rattle.piece_step.specs.declared.fast.Next as quick
+use Rattle.piece_step.specs.FastSteps.{next_step, FastStepReady, FastStepInBounds, next_in_bounds, nothing_in_bounds, FastStepSound, a_record, nothing}
 use Rattle.piece_step.proofs.Writes.{piece_room, new_length, new_none, new_more, grows_none, grows_more}
 use Rattle.piece_run.specs.Runs.{StepsSoFar, Entered, StepsSound, proceeds_all, proceeds_fault}
 
@@ -52,6 +51,9 @@ run_begins {t = t} {out = out} {done = done} {k = k} b =
       text = rw (new_none t done);
       long = rw (new_none t done);
     }
+
+next_is : {x y : quick.Next} → ◌≡◌ {A = Option quick.Next} (Some x) (Some y) → x ≡ y
+next_is e = cc
 
 -- a step of a call that had completed the records `mid` when its steps began
 pub record Since (mid : List Rec) (d : Dialect) (t : Target) (piece : Bytes) (place : Place) (done : List Rec) (k : Buffered) (out₀ : Bytes) (i : ℕ)
@@ -98,13 +100,14 @@ module _ {d : Dialect} {t : Target} {piece : Bytes} {place : Place} {done : List
 
   -- the same where the fast path found it
   pub walk_quickly :
-      {mid : List Rec} {q : Place} {at end : ℕ} {out' : List ℕ} {r : FastStep} → Grows mid w.done' →
-      FastStepSound d t piece i p bytes ends w.done' w.k' o out out' r → r ≡ quick.Next q at end →
+      {mid : List Rec} {q : Place} {at end : ℕ} {out' : List ℕ} {r : Option quick.Next} → Grows mid w.done' →
+      FastStepSound d t piece i p bytes ends w.done' w.k' o out out' r → r ≡ Some (next_step q at end) →
       Since mid d t piece place done k out₀ at q bytes ends out' end
   walk_quickly {mid} {q} {at} {end} {out'} g (a_record {q = q'} {at = at'} {end = end'} x k'' r h v e) z =
-      let a : q' ≡ q = cc in
-      let b : at' ≡ at = cc in
-      let c : end' ≡ end = cc in
+      let n = next_is z in
+      let a : q' ≡ q = ap (λ (y : quick.Next). y.place) n in
+      let b : at' ≡ at = ap (λ (y : quick.Next). y.at) n in
+      let c : end' ≡ end = ap (λ (y : quick.Next). y.end) n in
       let s : Since mid d t piece place done k out₀ at' q' bytes ends out' end' = walk_more g x k'' r h v e in
       subst (λ (y : Place). Since mid d t piece place done k out₀ at y bytes ends out' end) a
       (subst (λ (y : ℕ). Since mid d t piece place done k out₀ y q' bytes ends out' end) b
@@ -153,18 +156,19 @@ pub record Behind (piece : Bytes) (n i : ℕ) (out : List ℕ) (q : Place) (at e
   pub room : end ≤ length out
 
 pub fast_behind :
-    {piece : Bytes} {n i : ℕ} {out out' : List ℕ} {r : FastStep} {q : Place} {at end : ℕ} → FastStepInBounds piece n i out out' r →
-    r ≡ quick.Next q at end → Behind piece n i out q at end
+    {piece : Bytes} {n i : ℕ} {out out' : List ℕ} {r : Option quick.Next} {q : Place} {at end : ℕ} → FastStepInBounds piece n i out out' r →
+    r ≡ Some (next_step q at end) → Behind piece n i out q at end
 fast_behind {piece} {n} {i} {out} {q = q} {at = at} {end = end} (next_in_bounds {q = q'} {at = at'} {end = end'} b p f l m) z =
-    let a : q' ≡ q = cc in
-    let c : at' ≡ at = cc in
-    let e : end' ≡ end = cc in
+    let s = next_is z in
+    let a : q' ≡ q = ap (λ (y : quick.Next). y.place) s in
+    let c : at' ≡ at = ap (λ (y : quick.Next). y.at) s in
+    let e : end' ≡ end = ap (λ (y : quick.Next). y.end) s in
     subst (λ (y : Place). Behind piece n i out y at end) a
     (subst (λ (y : ℕ). Behind piece n i out q' y end) c
     (subst (λ (y : ℕ). Behind piece n i out q' at' y) e (record { bounds = b; place = p; onward = f; inside = l; room = m })))
 fast_behind (nothing_in_bounds w) z = let y : ◌≡◌ {A = ℕ} 0 1 = cc in absurd (omega arith)
 
-pub fast_nothing : {piece : Bytes} {n i : ℕ} {out out' : List ℕ} {r : FastStep} → FastStepInBounds piece n i out out' r → r ≡ quick.Fallback → out' ≡ out
+pub fast_nothing : {piece : Bytes} {n i : ℕ} {out out' : List ℕ} {r : Option quick.Next} → FastStepInBounds piece n i out out' r → r ≡ None → out' ≡ out
 fast_nothing (next_in_bounds b p f l m) z = let y : ◌≡◌ {A = ℕ} 0 1 = cc in absurd (omega arith)
 fast_nothing (nothing_in_bounds w) z = w
 

@@ -11,12 +11,12 @@ mod stream;
 use std::env::FillError;
 use std::rt::Env;
 
-// The dialect that an argument names, 0 if it names none. The longest name has four bytes.
-fn argument(rt: &HostRuntime, i: usize) -> u32 {
+// The dialect that an argument names, if it names one. The longest name has four bytes.
+fn argument(rt: &HostRuntime, i: usize) -> Option<u32> {
     let mut word = [0u8; 4];
     match rt.arg(i, &mut word) {
         Ok(length) => messages::dialects::dialect_named(&word[..length]),
-        Err(_) => 0,
+        Err(_) => None,
     }
 }
 
@@ -38,11 +38,8 @@ fn help(rt: &HostRuntime) {
 }
 
 fn main(rt: HostRuntime) {
-    let source = argument(&rt, 1);
-    let target = argument(&rt, 2);
-    if has_argument(&rt, 3) || source == 0 || target == 0 {
-        help(&rt);
-        return;
+    match (argument(&rt, 1), argument(&rt, 2), has_argument(&rt, 3)) {
+        (Some(source), Some(target), false) => stream::convert(&rt, source, target),
+        _ => help(&rt),
     }
-    stream::convert(&rt, source, target);
 }

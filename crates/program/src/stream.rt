@@ -38,68 +38,85 @@ fn deliver(rt: &HostRuntime, answer: TextAnswer, out: &[u8]) -> bool {
     false
 }
 
-// One read and the call that follows from it. Returns whether there may be more to read.
-fn step(
-    rt: &HostRuntime,
+// A conversion: its dialects, the state that the calls are lent, and their output.
+#[derive(Drop)]
+struct Conversion {
     source: u32,
     target: u32,
-    numbers: &mut [usize; 14],
-    ends: &mut [usize; MAX_COLUMNS],
-    name_ends: &mut [usize; MAX_COLUMNS],
-    bytes: &mut [u8; MAX_RECORD],
-    names: &mut [u8; MAX_RECORD],
-    out: &mut [u8; LEAST_OUTPUT],
-) -> bool {
-    let mut input = [0u8; MAX_PIECE];
-    let n = match rt.stdin().read(&mut input) {
-        Ok(n) => n,
-        Err(e) => {
-            failure::report(rt, "standard input could not be read to its end", e);
+    numbers: [usize; 14],
+    ends: [usize; MAX_COLUMNS],
+    name_ends: [usize; MAX_COLUMNS],
+    bytes: [u8; MAX_RECORD],
+    names: [u8; MAX_RECORD],
+    out: [u8; LEAST_OUTPUT],
+}
+
+impl Conversion {
+    // The call for the end of the input.
+    fn end(&mut self) -> TextAnswer {
+        lent::end(
+            self.source,
+            self.target,
+            &mut self.numbers,
+            &mut self.ends,
+            &mut self.name_ends,
+            &mut self.bytes,
+            &mut self.names,
+            &mut self.out,
+        )
+    }
+
+    // The call for the next bytes of the input.
+    fn piece(&mut self, input: &[u8]) -> TextAnswer {
+        lent::piece(
+            self.source,
+            self.target,
+            &mut self.numbers,
+            &mut self.ends,
+            &mut self.name_ends,
+            &mut self.bytes,
+            &mut self.names,
+            input,
+            &mut self.out,
+        )
+    }
+
+    // One read and the call that follows from it. Returns whether there may be more to read.
+    fn step(&mut self, rt: &HostRuntime) -> bool {
+        let mut input = [0u8; MAX_PIECE];
+        let n = match rt.stdin().read(&mut input) {
+            Ok(n) => n,
+            Err(e) => {
+                failure::report(rt, "standard input could not be read to its end", e);
+                return false;
+            }
+        };
+        if n == 0 {
+            let answer = self.end();
+            deliver(rt, answer, &self.out);
             return false;
         }
-    };
-    if n == 0 {
-        let answer = lent::end(source, target, numbers, ends, name_ends, bytes, names, out);
-        deliver(rt, answer, out);
-        return false;
+        let answer = self.piece(&input[..n]);
+        deliver(rt, answer, &self.out)
     }
-    let answer = lent::piece(
-        source,
-        target,
-        numbers,
-        ends,
-        name_ends,
-        bytes,
-        names,
-        &input[..n],
-        out,
-    );
-    deliver(rt, answer, out)
 }
 
 // Converts all of standard input. A loop has to end, and nothing says that standard input does; but a step after which there may be more
 // has read at least a byte, and a file of more than MAX_FILE bytes is refused. So the steps never run out.
 pub fn convert(rt: &HostRuntime, source: u32, target: u32) {
-    let mut numbers = [0usize; 14];
-    let mut ends = [0usize; MAX_COLUMNS];
-    let mut name_ends = [0usize; MAX_COLUMNS];
-    let mut bytes = [0u8; MAX_RECORD];
-    let mut names = [0u8; MAX_RECORD];
-    let mut out = [0u8; LEAST_OUTPUT];
-    let mut turns = MAX_FILE + 1;
-    while 0 < turns
-        && step(
-            rt,
-            source,
-            target,
-            &mut numbers,
-            &mut ends,
-            &mut name_ends,
-            &mut bytes,
-            &mut names,
-            &mut out,
-        )
-    {
-        turns -= 1;
+    let mut conversion = Conversion {
+        source,
+        target,
+        numbers: [0usize; 14],
+        ends: [0usize; MAX_COLUMNS],
+        name_ends: [0usize; MAX_COLUMNS],
+        bytes: [0u8; MAX_RECORD],
+        names: [0u8; MAX_RECORD],
+        out: [0u8; LEAST_OUTPUT],
+    };
+    for _ in 0..=MAX_FILE {
+        if !conversion.step(rt) {
+            return;
+        }
     }
 }

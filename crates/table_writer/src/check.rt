@@ -13,7 +13,7 @@ ghost use Rattle.table_writer.specs.TableParts.{given, is_there};
 
 use cell_decoder::validate;
 use codes::cell;
-use model::{CellFault, Dialect, Kind};
+use model::{Dialect, Kind};
 
 // ---- cells
 
@@ -21,11 +21,8 @@ fn is_number_kind(k: Kind) -> bool
     ensures { result ≡ is_number k (Ok tt) }
 {
     match k {
-        Kind::Text => false,
         Kind::Number => true,
-        Kind::True => false,
-        Kind::False => false,
-        Kind::Null => false,
+        Kind::Text | Kind::True | Kind::False | Kind::Null => false,
     }
 }
 
@@ -38,12 +35,7 @@ fn is_number(s: &[u8]) -> bool
     }
     match validate::validate_cell(Dialect::Csvj, s) {
         Ok(()) => true,
-        Err(
-            CellFault {
-                fault: _,
-                offset: _,
-            },
-        ) => false,
+        Err(_) => false,
     }
 }
 
@@ -60,9 +52,7 @@ fn is_value(k: Kind, s: &[u8]) -> bool
     match k {
         Kind::Text => crate::content::is_content(s),
         Kind::Number => is_number(s),
-        Kind::True => is_empty(s),
-        Kind::False => is_empty(s),
-        Kind::Null => is_empty(s),
+        Kind::True | Kind::False | Kind::Null => is_empty(s),
     }
 }
 

@@ -27,7 +27,6 @@ use Rattle.model.specs.rules.Api.{decoder, decoder_leaves, Written, fitted, conv
 use Rattle.model.specs.rules.Api.{written_rows, writer, writer_leaves}
 use Rattle.model.proofs.Tests.{split}
 use Rattle.theorems.specs.Demands.{Leaves}
-use Rattle.model.specs.rules.Types.{cell_fault}
 
 -- what is written fits, and on refusal there is nothing
 pub record Fits {A : Type 0} (told : Report) (new : List A) (room : ℕ) : Type 0 where
@@ -118,7 +117,7 @@ unfolding decoder decoder_leaves
 decoder_leaves_lem n raw room = leaves_over _ room (by_dialect (dialect_of n))
   where
     by_check : (d : Dialect) (c : CellCheck) → Fits (decoded_as d raw (length room) c).report (decoded_as d raw (length room) c).content (length room)
-    by_check d (Err (cell_fault e o)) = nothing_fits _ (length room)
+    by_check d (Err u) = nothing_fits _ (length room)
     by_check d (Ok _) =
         split (λ (a : Decoded). Fits a.report a.content (length room)) (ltb (length room) (length (content_of d raw)))
         (λ _. nothing_fits (refusal 10) (length room))

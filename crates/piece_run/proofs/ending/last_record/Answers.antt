@@ -2,16 +2,21 @@
 -- buffer.
 use Prim.Native.Nat.{◌+◌, ◌<◌}
 use native.Mathlib.Omega.{arith}
-use mathlib.Core.Path.{◌≡◌, refl, ap, subst}
+use mathlib.Core.Path.{◌≡◌, refl, ap, subst, ◌∙◌}
 use lib.ListN.{length, take, set, length-set, length-take}
 use borrow.Author.Rules.{rules}
 use Rattle.model.specs.rules.Dialect.{into}
-use Rattle.piece_record.specs.declared.RecordResult.TheVariants.{Written, Refused, Invalid}
+use Rattle.std.specs.Prelude.{Ok, Err}
+use Rattle.piece_record.specs.declared.RecordError.{RecordError}
+use Rattle.piece_record.specs.declared.RecordError.TheVariants.{Refused, Invalid}
 use Rattle.piece_step.specs.declared.CallResult.{CallResult}
-use Rattle.piece_record.specs.Completion.{CompleteSound}
+use Rattle.piece_record.specs.Completion.{RecordResult, CompleteSound}
 use Rattle.piece_step.proofs.BufferedParts.{order_more}
 use Rattle.piece_run.proofs.EndCases.{last_room, last_order, finish_many, finish_kept}
 use Rattle.piece_run.proofs.ending.last_record.Goals as goal
+
+abbrev in_error : RecordError → RecordResult
+in_error e = Err e
 
 pub fault_at-requires : goal.fault_at-requires
 fault_at-requires c = let records = c.requires.step_ready.bounds.records in let offset = c.requires.step_ready.bounds.offset in omega arith
@@ -56,43 +61,43 @@ complete-requires c =
       starts_len = (search rules, search rules);
     }
 
-pub fault_at-requires-in-Refused : goal.fault_at-requires-in-Refused
-fault_at-requires-in-Refused c = let records = c.requires.step_ready.bounds.records in let offset = c.requires.step_ready.bounds.offset in omega arith
+pub fault_at-requires-in-Err-Refused : goal.fault_at-requires-in-Err-Refused
+fault_at-requires-in-Err-Refused c = let records = c.requires.step_ready.bounds.records in let offset = c.requires.step_ready.bounds.offset in omega arith
 
-pub returns-in-Written : goal.returns-in-Written
-returns-in-Written c =
+pub returns-in-Ok : goal.returns-in-Ok
+returns-in-Ok c =
     let a = c.args in
     let q = c.complete in
     let ruling =
     subst (CompleteSound a.d (into a.t) a.p a.bytes.now (take (a.p.cells + 1) (set a.ends.now a.p.cells a.p.fill)) 0
-    a.out.now _) c.in-Written.is q.ensures in record {
+    a.out.now _) c.in-Ok.is q.ensures in record {
       finished = λ done k b. finish_kept a.d (into a.t) a.p a.bytes.now a.ends.now a.out.now done k b c.requires.state_value c.if-last-ge-MAX_COLUMNS.false
-          c.requires.step_ready.long_ends (set a.ends.now a.p.cells a.p.fill) refl _ (Written _) _ ruling (c.call_report.ensures, refl, refl);
+          c.requires.step_ready.long_ends (set a.ends.now a.p.cells a.p.fill) refl _ (Ok _) _ ruling (c.call_report.ensures, refl, refl);
       length_in_bounds = last_room ruling;
     }
 
-pub returns-in-Refused : goal.returns-in-Refused
-returns-in-Refused c =
+pub returns-in-Err-Refused : goal.returns-in-Err-Refused
+returns-in-Err-Refused c =
     let a = c.args in
     let q = c.complete in
-    let none = ap (λ (x : CallResult). x.length) c.fault_at-in-Refused.ensures in
+    let none = ap (λ (x : CallResult). x.length) c.fault_at-in-Err-Refused.ensures in
     let ruling =
     subst (CompleteSound a.d (into a.t) a.p a.bytes.now (take (a.p.cells + 1) (set a.ends.now a.p.cells a.p.fill)) 0
-    a.out.now _) c.in-Refused.is q.ensures in record {
+    a.out.now _) (c.in-Err-Refused.is ∙ ap in_error c.in-Err-Refused.field-0-is) q.ensures in record {
       finished = λ done k b. finish_kept a.d (into a.t) a.p a.bytes.now a.ends.now a.out.now done k b c.requires.state_value c.if-last-ge-MAX_COLUMNS.false
-          c.requires.step_ready.long_ends (set a.ends.now a.p.cells a.p.fill) refl _ (Refused _) _ ruling
-          (ap (λ (x : CallResult). x.report) c.fault_at-in-Refused.ensures, none, ap (λ (x : CallResult). x.place) c.fault_at-in-Refused.ensures);
+          c.requires.step_ready.long_ends (set a.ends.now a.p.cells a.p.fill) refl _ (Err (Refused _)) _ ruling
+          (ap (λ (x : CallResult). x.report) c.fault_at-in-Err-Refused.ensures, none, ap (λ (x : CallResult). x.place) c.fault_at-in-Err-Refused.ensures);
       length_in_bounds = omega arith;
     }
 
-pub returns-in-Invalid : goal.returns-in-Invalid
-returns-in-Invalid c =
+pub returns-in-Err-Invalid : goal.returns-in-Err-Invalid
+returns-in-Err-Invalid c =
     let a = c.args in
     let q = c.complete in
     let ruling =
     subst (CompleteSound a.d (into a.t) a.p a.bytes.now (take (a.p.cells + 1) (set a.ends.now a.p.cells a.p.fill)) 0
-    a.out.now _) c.in-Invalid.is q.ensures in record {
+    a.out.now _) (c.in-Err-Invalid.is ∙ ap in_error c.in-Err-Invalid.field-0-is) q.ensures in record {
       finished = λ done k b. finish_kept a.d (into a.t) a.p a.bytes.now a.ends.now a.out.now done k b c.requires.state_value c.if-last-ge-MAX_COLUMNS.false
-          c.requires.step_ready.long_ends (set a.ends.now a.p.cells a.p.fill) refl _ Invalid _ ruling tt;
+          c.requires.step_ready.long_ends (set a.ends.now a.p.cells a.p.fill) refl _ (Err Invalid) _ ruling tt;
       length_in_bounds = omega arith;
     }

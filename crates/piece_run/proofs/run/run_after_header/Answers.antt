@@ -18,14 +18,14 @@ step-requires c = let r = c.requires in record {
   bytes_len = (r.long_bytes, r.long_ends);
 }
 
-pub returns-in-Buffered : goal.returns-in-Buffered
-returns-in-Buffered c =
+pub returns-in-Some : goal.returns-in-Some
+returns-in-Some c =
     let a = c.args in
     let none = ap (λ (x : CallResult). x.length) c.call_result.ensures in record {
       steps_sound = λ done k entered w.
           subst (StepsSound a.d (into a.t) a.piece.now a.place done k w.done' a.out.now _ a.ends.now a.out.now)
           (sym c.call_result.ensures)
-          (cell_buffered w c.step.ensures c.in-Buffered.is c.call_report.ensures);
+          (cell_buffered w c.step.ensures c.in-Some.is c.call_report.ensures);
       length_in_bounds = omega arith;
     }
 

@@ -19,17 +19,17 @@ data_record-requires c =
       scratch = record { long_starts = l.4 ∙ s.long_starts; long_stops = l.5 ∙ s.long_stops; long_kinds = l.6 ∙ s.long_kinds };
     }
 
-pub loop-q-smaller-in-Next : goal.loop-q-smaller-in-Next
-loop-q-smaller-in-Next c =
+pub loop-q-smaller-in-Some : goal.loop-q-smaller-in-Some
+loop-q-smaller-in-Some c =
     let l = c.loop-q in
-    let b = fast_behind c.data_record.ensures.fast_step_in_bounds c.in-Next.is in
+    let b = fast_behind c.data_record.ensures.fast_step_in_bounds c.in-Some.is in
     let g0 = b.onward in let g1 = b.inside in omega arith
 
-pub loop-q-preserved-in-Next : goal.loop-q-preserved-in-Next
-loop-q-preserved-in-Next c =
+pub loop-q-preserved-in-Some : goal.loop-q-preserved-in-Some
+loop-q-preserved-in-Some c =
     let l = c.loop-q in
     let r = c.data_record.ensures in
-    let e = c.in-Next.is in
+    let e = c.in-Some.is in
     let b = fast_behind r.fast_step_in_bounds e in
     let o = c.out-1.given in (
       ready_fast b o l.invariant.0,
@@ -49,7 +49,7 @@ pub step-requires : goal.step-requires
 step-requires c =
     let l = c.loop-q.invariant in
     let s = c.requires.scratch in record {
-      step_ready = ready_still (fast_nothing c.data_record.ensures.fast_step_in_bounds c.in-Fallback.is) l.0;
+      step_ready = ready_still (fast_nothing c.data_record.ensures.fast_step_in_bounds c.in-None.is) l.0;
       scratch = record {
         long_starts = c.starts-1.given ∙ l.4 ∙ s.long_starts;
         long_stops = c.stops-1.given ∙ l.5 ∙ s.long_stops;
@@ -62,7 +62,7 @@ loop-q-smaller c =
     let l = c.loop-q in
     let a = c.args in
     let t = c.step in
-    let g = proceeds_forward (subst (StepInBounds a.piece.now a.n l.i _ _) c.in-Next-step.is t.ensures.step_in_bounds) in
+    let g = proceeds_forward (subst (StepInBounds a.piece.now a.n l.i _ _) c.in-Next.is t.ensures.step_in_bounds) in
     let g0 = g.0 in let g1 = g.1 in omega arith
 
 pub loop-q-preserved : goal.loop-q-preserved
@@ -70,23 +70,23 @@ loop-q-preserved c =
     let l = c.loop-q in
     let a = c.args in
     let t = c.step in
-    let same = fast_nothing c.data_record.ensures.fast_step_in_bounds c.in-Fallback.is in
+    let same = fast_nothing c.data_record.ensures.fast_step_in_bounds c.in-None.is in
     let b = c.bytes-1.given in
     let e = c.ends-1.given in
-    let o = c.out-in-Fallback-1.given in (
-      ready_on _ _ _ (subst (StepInBounds a.piece.now a.n l.i _ _) c.in-Next-step.is t.ensures.step_in_bounds) b e o
+    let o = c.out-in-None-1.given in (
+      ready_on _ _ _ (subst (StepInBounds a.piece.now a.n l.i _ _) c.in-Next.is t.ensures.step_in_bounds) b e o
           (ready_still same l.invariant.0),
       b ∙ l.invariant.1,
       e ∙ l.invariant.2,
       o ∙ c.out-1.given ∙ l.invariant.3,
-      c.starts-in-Fallback-1.given ∙ c.starts-1.given ∙ l.invariant.4,
-      c.stops-in-Fallback-1.given ∙ c.stops-1.given ∙ l.invariant.5,
-      c.kinds-in-Fallback-1.given ∙ c.kinds-1.given ∙ l.invariant.6,
+      c.starts-in-None-1.given ∙ c.starts-1.given ∙ l.invariant.4,
+      c.stops-in-None-1.given ∙ c.stops-1.given ∙ l.invariant.5,
+      c.kinds-in-None-1.given ∙ c.kinds-1.given ∙ l.invariant.6,
       λ began done k first z.
           let s = since_still same (l.invariant.7 began done k first z) in
           let w = s.now in
           walk_on w s.grows (subst (StepSound a.d (into a.t) a.piece.now l.i l.p w.done' w.k' l.o _ _ _ _)
-          c.in-Next-step.is (t.ensures.step_sound w.done' w.k' w.hold)),
+          c.in-Next.is (t.ensures.step_sound w.done' w.k' w.hold)),
     )
 
 pub shape_of-bytes-in-NeedInput : goal.shape_of-bytes-in-NeedInput
@@ -96,19 +96,19 @@ pub shape_of-ends-in-NeedInput : goal.shape_of-ends-in-NeedInput
 shape_of-ends-in-NeedInput c = c.ends-1.given ∙ c.loop-q.invariant.2
 
 pub shape_of-out-in-NeedInput : goal.shape_of-out-in-NeedInput
-shape_of-out-in-NeedInput c = c.out-in-Fallback-1.given ∙ c.out-1.given ∙ c.loop-q.invariant.3
+shape_of-out-in-NeedInput c = c.out-in-None-1.given ∙ c.out-1.given ∙ c.loop-q.invariant.3
 
 pub shape_of-starts-in-NeedInput : goal.shape_of-starts-in-NeedInput
 shape_of-starts-in-NeedInput c =
-    c.starts-in-Fallback-1.given ∙ c.starts-1.given
+    c.starts-in-None-1.given ∙ c.starts-1.given
     ∙ c.loop-q.invariant.4
 
 pub shape_of-stops-in-NeedInput : goal.shape_of-stops-in-NeedInput
-shape_of-stops-in-NeedInput c = c.stops-in-Fallback-1.given ∙ c.stops-1.given ∙ c.loop-q.invariant.5
+shape_of-stops-in-NeedInput c = c.stops-in-None-1.given ∙ c.stops-1.given ∙ c.loop-q.invariant.5
 
 pub shape_of-kinds-in-NeedInput : goal.shape_of-kinds-in-NeedInput
 shape_of-kinds-in-NeedInput c =
-    c.kinds-in-Fallback-1.given ∙ c.kinds-1.given
+    c.kinds-in-None-1.given ∙ c.kinds-1.given
     ∙ c.loop-q.invariant.6
 
 pub returns-in-NeedInput : goal.returns-in-NeedInput
@@ -116,7 +116,7 @@ returns-in-NeedInput c =
     let l = c.loop-q in
     let a = c.args in
     let t = c.step in
-    let same = fast_nothing c.data_record.ensures.fast_step_in_bounds c.in-Fallback.is in
+    let same = fast_nothing c.data_record.ensures.fast_step_in_bounds c.in-None.is in
     let b = pended_in_bounds (subst (StepInBounds a.piece.now a.n l.i _ _) c.in-NeedInput.is t.ensures.step_in_bounds) in
     let length-is = ap (λ (x : CallResult). x.length) c.call_result.ensures in
     let room = l.invariant.0.room in
@@ -137,23 +137,23 @@ pub shape_of-ends-in-Failed : goal.shape_of-ends-in-Failed
 shape_of-ends-in-Failed c = c.ends-1.given ∙ c.loop-q.invariant.2
 
 pub shape_of-out-in-Failed : goal.shape_of-out-in-Failed
-shape_of-out-in-Failed c = c.out-in-Fallback-1.given ∙ c.out-1.given ∙ c.loop-q.invariant.3
+shape_of-out-in-Failed c = c.out-in-None-1.given ∙ c.out-1.given ∙ c.loop-q.invariant.3
 
 pub shape_of-starts-in-Failed : goal.shape_of-starts-in-Failed
-shape_of-starts-in-Failed c = c.starts-in-Fallback-1.given ∙ c.starts-1.given ∙ c.loop-q.invariant.4
+shape_of-starts-in-Failed c = c.starts-in-None-1.given ∙ c.starts-1.given ∙ c.loop-q.invariant.4
 
 pub shape_of-stops-in-Failed : goal.shape_of-stops-in-Failed
-shape_of-stops-in-Failed c = c.stops-in-Fallback-1.given ∙ c.stops-1.given ∙ c.loop-q.invariant.5
+shape_of-stops-in-Failed c = c.stops-in-None-1.given ∙ c.stops-1.given ∙ c.loop-q.invariant.5
 
 pub shape_of-kinds-in-Failed : goal.shape_of-kinds-in-Failed
-shape_of-kinds-in-Failed c = c.kinds-in-Fallback-1.given ∙ c.kinds-1.given ∙ c.loop-q.invariant.6
+shape_of-kinds-in-Failed c = c.kinds-in-None-1.given ∙ c.kinds-1.given ∙ c.loop-q.invariant.6
 
 pub returns-in-Failed : goal.returns-in-Failed
 returns-in-Failed c =
     let l = c.loop-q in
     let a = c.args in
     let t = c.step in
-    let same = fast_nothing c.data_record.ensures.fast_step_in_bounds c.in-Fallback.is in
+    let same = fast_nothing c.data_record.ensures.fast_step_in_bounds c.in-None.is in
     let length-is = ap (λ (x : CallResult). x.length) c.call_result-in-Failed.ensures in
     let room = l.invariant.0.room in
     let as_long = l.invariant.3 in record {
@@ -173,23 +173,23 @@ pub shape_of-ends-in-BadState : goal.shape_of-ends-in-BadState
 shape_of-ends-in-BadState c = c.ends-1.given ∙ c.loop-q.invariant.2
 
 pub shape_of-out-in-BadState : goal.shape_of-out-in-BadState
-shape_of-out-in-BadState c = c.out-in-Fallback-1.given ∙ c.out-1.given ∙ c.loop-q.invariant.3
+shape_of-out-in-BadState c = c.out-in-None-1.given ∙ c.out-1.given ∙ c.loop-q.invariant.3
 
 pub shape_of-starts-in-BadState : goal.shape_of-starts-in-BadState
-shape_of-starts-in-BadState c = c.starts-in-Fallback-1.given ∙ c.starts-1.given ∙ c.loop-q.invariant.4
+shape_of-starts-in-BadState c = c.starts-in-None-1.given ∙ c.starts-1.given ∙ c.loop-q.invariant.4
 
 pub shape_of-stops-in-BadState : goal.shape_of-stops-in-BadState
-shape_of-stops-in-BadState c = c.stops-in-Fallback-1.given ∙ c.stops-1.given ∙ c.loop-q.invariant.5
+shape_of-stops-in-BadState c = c.stops-in-None-1.given ∙ c.stops-1.given ∙ c.loop-q.invariant.5
 
 pub shape_of-kinds-in-BadState : goal.shape_of-kinds-in-BadState
-shape_of-kinds-in-BadState c = c.kinds-in-Fallback-1.given ∙ c.kinds-1.given ∙ c.loop-q.invariant.6
+shape_of-kinds-in-BadState c = c.kinds-in-None-1.given ∙ c.kinds-1.given ∙ c.loop-q.invariant.6
 
 pub returns-in-BadState : goal.returns-in-BadState
 returns-in-BadState c =
     let l = c.loop-q in
     let a = c.args in
     let t = c.step in
-    let same = fast_nothing c.data_record.ensures.fast_step_in_bounds c.in-Fallback.is in
+    let same = fast_nothing c.data_record.ensures.fast_step_in_bounds c.in-None.is in
     let length-is = ap (λ (x : CallResult). x.length) c.call_result-in-BadState.ensures in
     let room = l.invariant.0.room in
     let as_long = l.invariant.3 in record {
