@@ -28,12 +28,6 @@ use Rattle.file_cursor.proofs.Traversal.{Walking, sets_out, sets_rs, walks_on, w
 use Rattle.file_converter.specs.Converts as converts
 use Rattle.file_converter.specs.Converts.{answer_in, text_in, MeasureSound, Accepts}
 
--- ---- local lists
-
--- n cells fit into a list of that many places
-pub lie_in : {n places m : ℕ} → n ≤ places → places ≡ m → n ≤ m
-lie_in {n} h e = subst (λ (x : ℕ). n ≤ x) e h
-
 -- ---- the first pass
 
 module _ {d t : Dialect} {file : Bytes} {c : Cursor} (y : Walking d (Some t) file c) {s e k : List ℕ} {o : Result (Option Cursor) Report}

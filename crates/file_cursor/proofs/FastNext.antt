@@ -15,7 +15,7 @@ use Rattle.model.specs.rules.Records.{Rec, between_records}
 use Rattle.record_scanner.specs.Tokens.{outer}
 use Rattle.cell_fast.specs.Ends.{CleanIn}
 use Rattle.record_fast.specs.declared.FastRecord.{FastRecord}
-use Rattle.std.specs.Prelude.{Option, None, Some}
+use Rattle.std.specs.Prelude.{Option, Some}
 use Rattle.record_fast.specs.FastScan.{FastScanSound}
 use Rattle.file_cursor.specs.Next.{next_record}
 use Rattle.file_cursor.specs.declared.scan.FileScan.TheVariants.{Completed}

@@ -23,7 +23,7 @@ use Rattle.file_cursor.specs.declared.Cursor.{Cursor}
 use Rattle.file_cursor.specs.NextRecord as visits
 use Rattle.file_cursor.specs.FileOutcome.{rest_of}
 use Rattle.file_cursor.specs.NextRecord.{target_of, cursor_of, at_start, After, NextRecordSound}
-use Rattle.record_fast.specs.CellLists.{Long, SameLengths}
+use Rattle.record_fast.specs.CellLists.{SameLengths}
 
 -- the whole file is what is left from the cursor on, after the records rs
 pub record Walking (d : Dialect) (target : Option Dialect) (file : Bytes) (c : Cursor) : Type 0 where
@@ -97,10 +97,6 @@ module _ {d : Dialect} {target : Option Dialect} {file : Bytes} {c : Cursor} (y 
       (grows_trans (read_grows d (target_of target) (going (between_records y.rs c.state c.offset)) (drop c.offset file))
       (end_grows d (target_of target) (read_from d (target_of target) (going (between_records y.rs c.state c.offset)) (drop c.offset file))))
 
-  -- what the cursor's call requires
-  pub walk_bounds : ((c.offset ≤ length file) × (c.offset ≤ MAXFILE) × (outer c.state ≡ true)) × ((c.done ≤ c.offset) × (c.written ≤ MAXFILE))
-  walk_bounds = ((y.inside, y.under, y.between), (y.many, y.short))
-
   -- less is left after one record more
   pub walk_less :
       {starts ends kinds : List ℕ} {v : Cursor} → visits.Next d target file y.rs c.state c.offset starts ends kinds v →
@@ -156,9 +152,6 @@ pub record Full (starts ends kinds : List ℕ) : Type 0 where
   pub at_starts : MAXCOLUMNS ≡ length starts
   pub at_ends : MAXCOLUMNS ≡ length ends
   pub at_kinds : MAXCOLUMNS ≡ length kinds
-
-pub full_long : {s e k : List ℕ} → Full s e k → Long s e k
-full_long y = record { at_starts = omega (arith, y.at_starts); at_ends = omega (arith, y.at_ends); at_kinds = omega (arith, y.at_kinds) }
 
 pub full_kept : {s₀ e₀ k₀ s e k : List ℕ} → Full s₀ e₀ k₀ → SameLengths s₀ e₀ k₀ s e k → Full s e k
 full_kept y z = record { at_starts = y.at_starts ∙ sym z.at_starts; at_ends = y.at_ends ∙ sym z.at_ends; at_kinds = y.at_kinds ∙ sym z.at_kinds }

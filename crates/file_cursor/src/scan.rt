@@ -16,7 +16,7 @@ use record_scanner::record_state::RecordState;
 use record_scanner::token::ScanOutcome;
 use record_scanner::{limits, store};
 
-// The next event of reading.
+// The next event of reading. Four ways: a last record leaves no place to read on from, and an end is no fault.
 #[derive(Clone, Copy)]
 pub enum FileScan {
     // A record is complete: its start, its number of cells, and the state and the offset after it.

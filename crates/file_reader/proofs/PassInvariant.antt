@@ -24,7 +24,6 @@ use Rattle.record_scanner.specs.Stored.{stored_from}
 use Rattle.file_cursor.specs.FileOutcome.{rest_of, ReadsAs}
 use Rattle.file_cursor.specs.declared.scan.FileScan.{FileScan}
 use Rattle.file_cursor.specs.declared.scan.FileScan.TheVariants.{Completed, LastRecord, Failed, End}
-use Rattle.record_scanner.proofs.StoreLaws.{length_stored_from}
 use Rattle.file_cursor.proofs.RecordByRecord.{stays, reads_on}
 use Rattle.file_reader.specs.declared.pass.DataScan.{DataScan}
 use Rattle.file_reader.specs.declared.pass.DataScan.TheVariants as next
@@ -58,15 +57,6 @@ more_held room n vs ws s₀ e₀ k₀ s e ks s' e' k' l y a b c =
       at_ends = stored_more _ room n vs ws e₀ e e' l y.at_ends b;
       at_kinds = stored_more _ room n vs ws k₀ ks k' l y.at_kinds c;
     }
-
-pub held_lengths :
-    {room : ℕ} {vs : List Value} {s₀ e₀ k₀ s e ks : List ℕ} → Holds room vs s₀ e₀ k₀ s e ks →
-    (length s ≡ length s₀) × (length e ≡ length e₀) × (length ks ≡ length k₀)
-held_lengths {room} {vs} {s₀} {e₀} {k₀} y = (
-  ap length y.at_starts ∙ length_stored_from room 0 (starts_of vs) s₀,
-  ap length y.at_ends ∙ length_stored_from room 0 (ends_of vs) e₀,
-  ap length y.at_kinds ∙ length_stored_from room 0 (kinds_of vs) k₀,
-)
 
 rows_snoc : (ds : List Rec) (r : Rec) → concat (rows (ds ++ (r ∷ []))) ≡ concat (rows ds) ++ r.cells
 unfolding rows concat

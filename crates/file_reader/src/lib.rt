@@ -100,6 +100,7 @@ pub fn read_in(
     ensures kinds_after { kinds.new ≡ over (kinds_of (answer_in d file.now (min (length starts.old) (min (length ends.old) (length kinds.old)))).cells) kinds.old }
 {
     let room = starts.len().min(ends.len().min(kinds.len()));
+    // Three lists, since the scanner fills those that C lends side by side.
     let mut header_starts = [0usize; MAX_COLUMNS];
     let mut header_ends = [0usize; MAX_COLUMNS];
     let mut header_kinds = [0u8; MAX_COLUMNS];
