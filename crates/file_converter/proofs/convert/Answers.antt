@@ -1,6 +1,6 @@
 -- `file_converter::convert` meets its contract, by the dialects that the numbers name.
 use mathlib.Core.Path.{sym, ap, ◌∙◌}
-use Rattle.core.specs.Result.{result_ok}
+use Rattle.std.specs.Result.{result_ok}
 use Rattle.file_converter.proofs.ConverterAnswers.{both_known, source_unknown, target_unknown}
 use Rattle.file_converter.proofs.convert.Goals as goal
 

@@ -1,6 +1,6 @@
 -- `file_reader::read` meets its contract, by the dialect that the number names.
 use mathlib.Core.Path.{sym, ap, ◌∙◌}
-use Rattle.core.specs.Result.{result_ok}
+use Rattle.std.specs.Result.{result_ok}
 use Rattle.file_reader.proofs.ReaderAnswers.{known, unknown}
 use Rattle.file_reader.proofs.read.Goals as goal
 
