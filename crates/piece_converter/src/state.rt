@@ -7,6 +7,7 @@ ghost use Rattle.piece_converter.specs.States.{place_in, stored_fault, numbers_o
 use model::Report;
 use piece_state::place::Place;
 
+// Indices, and no struct: the C interface lends these numbers as one array.
 pub const STATE: usize = 0;
 
 pub const OFFSET: usize = 1;

@@ -23,17 +23,9 @@ pub fn call_result(place: Place, report: Report, length: usize) -> CallResult
     }
 }
 
-// The length of a record from `start` to `end`. In a state that no calls made the end may come first.
-fn bytes_between(start: usize, end: usize) -> usize {
-    if end < start {
-        return 0;
-    }
-    end - start
-}
-
 // The steps from index `from` of the piece on, with `at` bytes of the output written; n bytes were consumed before the piece. A record is
 // expected to be as long as the one before it: where less of the piece is left it will hardly end there, and the fast path would only
-// scan it twice.
+// scan it twice. In a state that no calls made a record may end before it starts, so its length saturates.
 pub fn run_steps(
     d: Dialect,
     t: Dialect,
@@ -63,7 +55,7 @@ pub fn run_steps(
             d, t, piece, n, i, least, p, out, o, starts, stops, kinds,
         ) {
             Some(Next { place: q, at, end }) => {
-                least = bytes_between(p.start, q.offset);
+                least = q.offset.saturating_sub(p.start);
                 p = q;
                 i = at;
                 o = end;
@@ -72,7 +64,7 @@ pub fn run_steps(
                 d, t, piece, n, i, p, bytes, ends, out, o, starts, stops, kinds,
             ) {
                 PieceStep::Next { place: q, at, end } => {
-                    least = bytes_between(p.start, q.offset);
+                    least = q.offset.saturating_sub(p.start);
                     p = q;
                     i = at;
                     o = end;

@@ -4,15 +4,19 @@ use Rattle.std.specs.Prelude.{Option, None, Some}
 use Rattle.model.specs.rules.Base.{Bytes}
 use Rattle.model.specs.rules.Utf8.{Wide, gap, ed, lone, inner, wide_step, wide_from}
 use Rattle.table_writer.specs.declared.content.ContentState.{ContentState}
-use Rattle.table_writer.specs.declared.content.ContentState.TheVariants.{Gap, AfterEd, InLone, InCharacter, NoContent}
+use Rattle.table_writer.specs.declared.content.ContentState.TheVariants.{Gap, AfterEd, InLone, InCharacter}
 
--- the state after what was read, or none where it is not content
-abbrev pub wide_in : ContentState → Option Wide
-wide_in (Gap high) = Some (gap high)
-wide_in (AfterEd high) = Some (ed high)
-wide_in (InLone high) = Some (lone high)
-wide_in (InCharacter i) = Some (inner i)
-wide_in NoContent = None
+-- the state after what was read
+abbrev pub wide_in : ContentState → Wide
+wide_in (Gap high) = gap high
+wide_in (AfterEd high) = ed high
+wide_in (InLone high) = lone high
+wide_in (InCharacter i) = inner i
+
+-- the same, or none where what was read is not content
+abbrev pub wide_of : Option ContentState → Option Wide
+wide_of None = None
+wide_of (Some p) = Some (wide_in p)
 
 -- the next byte
 abbrev pub step_in : Option Wide → ℕ → Option Wide

@@ -85,7 +85,7 @@ unfolding decoder
 decoder_tells n d raw room e = rw (e, decoder) (by_check (validate_cell d raw))
   where
     by_check : (c : CellCheck) → ReportsCell (length (content_of d raw)) room c (decoded_as d raw room c).report
-    by_check (Err u) = told.fault
+    by_check (Err u) = told.fault {e = u.fault} {o = u.offset}
     by_check (Ok _) =
         split (λ (a : Decoded). ReportsCell (length (content_of d raw)) room (Ok tt) a.report) (ltb room (length (content_of d raw)))
         (λ x. told.no_room (ltb-true room (length (content_of d raw)) x)) λ x. told.accepts (ltb-false room (length (content_of d raw)) x)

@@ -48,21 +48,6 @@ run_steps-requires c =
       };
     }
 
-pub shape_of-names-in-Next : goal.shape_of-names-in-Next
-shape_of-names-in-Next c = c.names-1.given
-
-pub shape_of-name_ends-in-Next : goal.shape_of-name_ends-in-Next
-shape_of-name_ends-in-Next c = c.name_ends-1.given
-
-pub shape_of-bytes : goal.shape_of-bytes
-shape_of-bytes c = c.bytes-in-Next-1.given
-
-pub shape_of-ends : goal.shape_of-ends
-shape_of-ends c = c.ends-in-Next-1.given
-
-pub shape_of-out-in-Next : goal.shape_of-out-in-Next
-shape_of-out-in-Next c = c.out-in-Next-1.given ∙ c.out-2-1.given
-
 pub returns-in-Next : goal.returns-in-Next
 returns-in-Next c =
     let a = c.args in
@@ -82,15 +67,6 @@ returns-in-Next c =
       length_in_bounds = omega arith;
     }
 
-pub shape_of-names-in-NeedInput : goal.shape_of-names-in-NeedInput
-shape_of-names-in-NeedInput c = c.names-1.given
-
-pub shape_of-name_ends-in-NeedInput : goal.shape_of-name_ends-in-NeedInput
-shape_of-name_ends-in-NeedInput c = c.name_ends-1.given
-
-pub shape_of-out-in-NeedInput : goal.shape_of-out-in-NeedInput
-shape_of-out-in-NeedInput c = c.out-2-1.given
-
 pub returns-in-NeedInput : goal.returns-in-NeedInput
 returns-in-NeedInput c =
     let a = c.args in
@@ -109,15 +85,6 @@ returns-in-NeedInput c =
       length_in_bounds = omega arith;
     }
 
-pub shape_of-names-in-Failed : goal.shape_of-names-in-Failed
-shape_of-names-in-Failed c = c.names-1.given
-
-pub shape_of-name_ends-in-Failed : goal.shape_of-name_ends-in-Failed
-shape_of-name_ends-in-Failed c = c.name_ends-1.given
-
-pub shape_of-out-in-Failed : goal.shape_of-out-in-Failed
-shape_of-out-in-Failed c = c.out-2-1.given
-
 pub returns-in-Failed : goal.returns-in-Failed
 returns-in-Failed c =
     let a = c.args in
@@ -134,15 +101,6 @@ returns-in-Failed c =
           (took_stopped begins none turn a.bytes.now a.ends.now);
       length_in_bounds = omega arith;
     }
-
-pub shape_of-names-in-BadState : goal.shape_of-names-in-BadState
-shape_of-names-in-BadState c = c.names-1.given
-
-pub shape_of-name_ends-in-BadState : goal.shape_of-name_ends-in-BadState
-shape_of-name_ends-in-BadState c = c.name_ends-1.given
-
-pub shape_of-out-in-BadState : goal.shape_of-out-in-BadState
-shape_of-out-in-BadState c = c.out-2-1.given
 
 pub returns-in-BadState : goal.returns-in-BadState
 unfolding run_begins

@@ -89,28 +89,6 @@ loop-q-preserved c =
           c.in-Next.is (t.ensures.step_sound w.done' w.k' w.hold)),
     )
 
-pub shape_of-bytes-in-NeedInput : goal.shape_of-bytes-in-NeedInput
-shape_of-bytes-in-NeedInput c = c.bytes-1.given ∙ c.loop-q.invariant.1
-
-pub shape_of-ends-in-NeedInput : goal.shape_of-ends-in-NeedInput
-shape_of-ends-in-NeedInput c = c.ends-1.given ∙ c.loop-q.invariant.2
-
-pub shape_of-out-in-NeedInput : goal.shape_of-out-in-NeedInput
-shape_of-out-in-NeedInput c = c.out-in-None-1.given ∙ c.out-1.given ∙ c.loop-q.invariant.3
-
-pub shape_of-starts-in-NeedInput : goal.shape_of-starts-in-NeedInput
-shape_of-starts-in-NeedInput c =
-    c.starts-in-None-1.given ∙ c.starts-1.given
-    ∙ c.loop-q.invariant.4
-
-pub shape_of-stops-in-NeedInput : goal.shape_of-stops-in-NeedInput
-shape_of-stops-in-NeedInput c = c.stops-in-None-1.given ∙ c.stops-1.given ∙ c.loop-q.invariant.5
-
-pub shape_of-kinds-in-NeedInput : goal.shape_of-kinds-in-NeedInput
-shape_of-kinds-in-NeedInput c =
-    c.kinds-in-None-1.given ∙ c.kinds-1.given
-    ∙ c.loop-q.invariant.6
-
 pub returns-in-NeedInput : goal.returns-in-NeedInput
 returns-in-NeedInput c =
     let l = c.loop-q in
@@ -130,24 +108,6 @@ returns-in-NeedInput c =
       length_in_bounds = omega arith;
     }
 
-pub shape_of-bytes-in-Failed : goal.shape_of-bytes-in-Failed
-shape_of-bytes-in-Failed c = c.bytes-1.given ∙ c.loop-q.invariant.1
-
-pub shape_of-ends-in-Failed : goal.shape_of-ends-in-Failed
-shape_of-ends-in-Failed c = c.ends-1.given ∙ c.loop-q.invariant.2
-
-pub shape_of-out-in-Failed : goal.shape_of-out-in-Failed
-shape_of-out-in-Failed c = c.out-in-None-1.given ∙ c.out-1.given ∙ c.loop-q.invariant.3
-
-pub shape_of-starts-in-Failed : goal.shape_of-starts-in-Failed
-shape_of-starts-in-Failed c = c.starts-in-None-1.given ∙ c.starts-1.given ∙ c.loop-q.invariant.4
-
-pub shape_of-stops-in-Failed : goal.shape_of-stops-in-Failed
-shape_of-stops-in-Failed c = c.stops-in-None-1.given ∙ c.stops-1.given ∙ c.loop-q.invariant.5
-
-pub shape_of-kinds-in-Failed : goal.shape_of-kinds-in-Failed
-shape_of-kinds-in-Failed c = c.kinds-in-None-1.given ∙ c.kinds-1.given ∙ c.loop-q.invariant.6
-
 pub returns-in-Failed : goal.returns-in-Failed
 returns-in-Failed c =
     let l = c.loop-q in
@@ -165,24 +125,6 @@ returns-in-Failed c =
           c.in-Failed.is (t.ensures.step_sound w.done' w.k' w.hold)) z.done' s.grows);
       length_in_bounds = omega arith;
     }
-
-pub shape_of-bytes-in-BadState : goal.shape_of-bytes-in-BadState
-shape_of-bytes-in-BadState c = c.bytes-1.given ∙ c.loop-q.invariant.1
-
-pub shape_of-ends-in-BadState : goal.shape_of-ends-in-BadState
-shape_of-ends-in-BadState c = c.ends-1.given ∙ c.loop-q.invariant.2
-
-pub shape_of-out-in-BadState : goal.shape_of-out-in-BadState
-shape_of-out-in-BadState c = c.out-in-None-1.given ∙ c.out-1.given ∙ c.loop-q.invariant.3
-
-pub shape_of-starts-in-BadState : goal.shape_of-starts-in-BadState
-shape_of-starts-in-BadState c = c.starts-in-None-1.given ∙ c.starts-1.given ∙ c.loop-q.invariant.4
-
-pub shape_of-stops-in-BadState : goal.shape_of-stops-in-BadState
-shape_of-stops-in-BadState c = c.stops-in-None-1.given ∙ c.stops-1.given ∙ c.loop-q.invariant.5
-
-pub shape_of-kinds-in-BadState : goal.shape_of-kinds-in-BadState
-shape_of-kinds-in-BadState c = c.kinds-in-None-1.given ∙ c.kinds-1.given ∙ c.loop-q.invariant.6
 
 pub returns-in-BadState : goal.returns-in-BadState
 returns-in-BadState c =

@@ -17,7 +17,3 @@ returns-in-InLone c = rw c.in-InLone.is
 pub returns-in-InCharacter : goal.returns-in-InCharacter
 unfolding wide_from
 returns-in-InCharacter c = rw c.in-InCharacter.is
-
-pub returns-in-NoContent : goal.returns-in-NoContent
-unfolding wide_from
-returns-in-NoContent c = rw c.in-NoContent.is
