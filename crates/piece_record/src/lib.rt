@@ -46,6 +46,7 @@ fn finish(
 {
     let header = p.records == 0;
     let clean = record_writer::clean::is_clean_record(d, s, starts, ends, header);
+    // A match and not `map_err`: a proof can't read the clause of a constructor that is passed as a function.
     let length = match record_target::check_record(
         d, t, s, starts, ends, kinds, header, clean, p.columns, p.written,
     ) {

@@ -84,7 +84,7 @@ module _ (d : Dialect) (piece : Bytes) (p : Place) (bytes ends : List ℕ) (boun
   abbrev place_behind : (fill : ℕ) → Place
   place_behind fill =
       record {
-        state = Inside c;
+        state = p.state;
         offset = p.offset + length piece;
         start = p.start;
         size = p.size + length piece;
@@ -110,7 +110,7 @@ module _ (d : Dialect) (piece : Bytes) (p : Place) (bytes ends : List ℕ) (boun
       place_behind (p.fill + length piece) ≡ place_at_piece_end p p.offset 0 (length piece) (Inside c) hand
       (p.fill + length (buffered_bytes []) + length (drop 0 piece))
   unfolding buffered_bytes choose◌then◌else◌
-  place_is = rw (add-zero p.cells, add-zero p.fill) refl
+  place_is = rw (state, add-zero p.cells, add-zero p.fill) refl
 
   keeps : RecordBuffered p p.offset 0 (Inside c) hand piece [] (p.cells + hand.cells) bytes ends bytes' ends (place_behind (p.fill + length piece))
   unfolding buffered_bytes buffered_ends

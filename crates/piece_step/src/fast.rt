@@ -111,9 +111,9 @@ fn finish_record(
             size: 0,
             fill: 0,
             cells: 0,
-            columns: p.columns,
             records: p.records + 1,
             written: p.written + (end - o),
+            ..p
         },
         at: next,
         end,
@@ -124,18 +124,7 @@ fn finish_record(
 fn is_between(p: Place) -> bool
     ensures { result ≡ true → Between p }
 {
-    if p.records == 0 {
-        return false;
-    }
-    if p.size != 0 {
-        return false;
-    }
-    let state = p.state;
-    match state {
-        FileState::Begin => true,
-        FileState::Ended => true,
-        _ => false,
-    }
+    p.records != 0 && p.size == 0 && matches!(p.state, FileState::Begin | FileState::Ended)
 }
 
 // The step from index i of the piece on, as `step` does it; n bytes were consumed before the piece. Falls back where fewer than `least`
@@ -159,10 +148,7 @@ pub fn data_record(
     ensures fast_step_in_bounds { FastStepInBounds piece.now n i out.old out.new result }
     ensures by_index { (bytes ends : List ℕ) (done : List Rec) (k : Buffered) → StateInvariant d (into t) p bytes ends done k → FastStepSound d (into t) piece.now i p bytes ends done k o out.old out.new result }
 {
-    if piece.len() - i < least {
-        return None;
-    }
-    if !is_between(p) {
+    if piece.len() - i < least || !is_between(p) {
         return None;
     }
     let r = record_fast::scan(

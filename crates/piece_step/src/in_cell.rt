@@ -12,7 +12,7 @@ use model::{Dialect, FileState};
 use piece_state::cells;
 use piece_state::place::Place;
 
-// Whether all bytes are 0x20 to 0x7E, and neither p nor q.
+// Whether all bytes are 0x20 to 0x7E, and neither p nor q. The loop steps by words, and its last word overlaps the one before.
 fn all_ordinary(s: &[u8], p: u8, q: u8) -> bool
     ensures { result ≡ true → AllIn (ordinary p q) s.now 0 (length s.now) }
 {
@@ -31,16 +31,7 @@ fn fits(p: Place, size: usize) -> bool
     requires { (p.size ≤ MAXRECORD) × (p.offset ≤ MAXFILE) }
     ensures { result ≡ true → Fits p size }
 {
-    if MAX_COLUMNS < p.cells {
-        return false;
-    }
-    if MAX_RECORD - p.size < size {
-        return false;
-    }
-    if MAX_FILE - p.offset < size {
-        return false;
-    }
-    true
+    p.cells <= MAX_COLUMNS && size <= MAX_RECORD - p.size && size <= MAX_FILE - p.offset
 }
 
 // The step over a whole piece after the header, as `step` does it: all bytes are buffered, and the next call begins at this place.
@@ -52,8 +43,7 @@ pub fn step(d: Dialect, piece: &[u8], p: Place, bytes: &mut [u8], ends: &[usize]
     if !fits(p, piece.len()) {
         return None;
     }
-    let state = p.state;
-    let FileState::Inside(c) = state else {
+    let FileState::Inside(c) = p.state else {
         return None;
     };
     let q = cell_scanner::run_stop(d, c)?;
@@ -62,14 +52,9 @@ pub fn step(d: Dialect, piece: &[u8], p: Place, bytes: &mut [u8], ends: &[usize]
     }
     let fill = cells::buffer_open(piece, bytes, p.fill);
     Some(Place {
-        state,
         offset: p.offset + piece.len(),
-        start: p.start,
         size: p.size + piece.len(),
         fill,
-        cells: p.cells,
-        columns: p.columns,
-        records: p.records,
-        written: p.written,
+        ..p
     })
 }

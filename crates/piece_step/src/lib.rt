@@ -125,9 +125,7 @@ fn need_input(
         size: h.size,
         fill,
         cells: p.cells + h.cells,
-        columns: p.columns,
-        records: p.records,
-        written: p.written,
+        ..p
     }
 }
 

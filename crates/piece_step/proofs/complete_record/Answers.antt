@@ -11,14 +11,6 @@ use Rattle.piece_step.specs.Steps.{too_many, from_buffered}
 use Rattle.piece_step.proofs.BufferedParts.{order_then, order_more, ends_long, listed}
 use Rattle.piece_step.proofs.complete_record.Goals as goal
 
-pub overflow_add-total : goal.overflow_add-total
-overflow_add-total c =
-    let few = c.requires.lists.few in let few0 = few.0 in
-    let few1 = few.1 in record { fits = omega arith }
-
-pub returns-then-total-gt-MAX_COLUMNS : goal.returns-then-total-gt-MAX_COLUMNS
-returns-then-total-gt-MAX_COLUMNS c = too_many c.if-total-gt-MAX_COLUMNS.true refl refl
-
 pub buffer_more-requires : goal.buffer_more-requires
 buffer_more-requires c =
     let a = c.args in
@@ -27,17 +19,6 @@ buffer_more-requires c =
     let few : a.p.cells + a.cells ≤ 64 = c.if-total-gt-MAX_COLUMNS.false in
     let long : length a.ends.now ≡ 64 = l.long_ends in
     record { spans_in = l.stand few; cells_in_bounds = omega arith; cells_in_bounds_2 = l.room few }
-
-pub slice_bounds-complete-end-2 : goal.slice_bounds-complete-end-2
-slice_bounds-complete-end-2 c =
-    let a = c.args in
-    let l = c.requires.lists in
-    let shown = raw_cells_at a.piece.now a.starts.now a.stops.now 0 a.cells in
-    let few : a.p.cells + a.cells ≤ 64 = c.if-total-gt-MAX_COLUMNS.false in
-    let long : length a.ends.now ≡ 64 = l.long_ends in
-    let count : length shown ≡ a.cells = listed (l.stand few) in
-    sym (ends_long a.ends.now _ a.p.fill a.p.cells shown (a.p.cells + a.cells) (omega arith) (omega arith)
-    c.buffer_more.ensures.ends_after)
 
 pub complete-requires : goal.complete-requires
 complete-requires c =

@@ -11,11 +11,6 @@ use Rattle.piece_step.proofs.Steps.{here, lists_done, cells_shown, next_file, ce
 use Rattle.piece_step.proofs.Steps.{cells_yet, room_open, end_file, start_yet, opened_yet, bounds_pended, turns_pended_on, failed_file, turns_failed}
 use Rattle.piece_step.proofs.step.Goals as goal
 
-pub overflow_sub-n : goal.overflow_sub-n
-overflow_sub-n c =
-    let r = c.requires.step_ready in let at = r.at in
-    let offset = r.bounds.offset in omega arith
-
 pub scan-requires : goal.scan-requires
 scan-requires c =
     let in_starts : MAXCOLUMNS ≤ length c.args.starts.now =
@@ -54,17 +49,6 @@ complete_record-r-requires c =
           adv.starts_after adv.ends_after (in_starts) (in_stops) c.starts-1.given c.stops-1.given (omega arith);
       written_bound = (c.requires.step_ready.bounds.written, c.requires.step_ready.room);
     }
-
-pub overflow_add-p : goal.overflow_add-p
-overflow_add-p c =
-    let a = c.args in
-    let adv = c.scan.ensures in
-    let x = completed_as (here a.d a.piece.now a.n a.i a.p a.bytes.now a.ends.now a.out.now a.o c.requires.step_ready) _ _ _ _ (sym adv.value ∙ c.in-Completed.is) in
-    let few = cells_few a.d a.piece.now a.n a.i a.p a.bytes.now a.ends.now a.out.now a.o c.requires.step_ready _ _ _ _ x in
-    let file = next_file a.d a.piece.now a.n a.i a.p a.bytes.now a.ends.now a.out.now a.o c.requires.step_ready _ _ _ _ x in
-    let cells = c.requires.step_ready.bounds.cells in
-    let offset = c.requires.step_ready.bounds.offset in
-    record { fits = omega arith }
 
 pub after_record-requires : goal.after_record-requires
 after_record-requires c =
@@ -105,29 +89,6 @@ buffer_rest-requires c =
           adv.starts_after adv.ends_after (in_starts) (in_stops);
     }
 
-pub overflow_add-p-in-Failed : goal.overflow_add-p-in-Failed
-overflow_add-p-in-Failed c =
-    let records = c.requires.step_ready.bounds.records in
-    let offset = c.requires.step_ready.bounds.offset in
-    record { fits = omega arith }
-
-pub overflow_add-n : goal.overflow_add-n
-overflow_add-n c =
-    let a = c.args in
-    let adv = c.scan.ensures in
-    let x = failed_as (here a.d a.piece.now a.n a.i a.p a.bytes.now a.ends.now a.out.now a.o c.requires.step_ready) _ _ (sym adv.value ∙ c.in-Failed.is) in
-    let file = failed_file a.d a.piece.now a.n a.i a.p a.bytes.now a.ends.now a.out.now a.o c.requires.step_ready _ _ x in
-    record { fits = omega arith }
-
-pub shape_of-starts-in-Completed : goal.shape_of-starts-in-Completed
-shape_of-starts-in-Completed c = c.starts-in-Completed-1.given ∙ c.starts-1.given
-
-pub shape_of-stops-in-Completed : goal.shape_of-stops-in-Completed
-shape_of-stops-in-Completed c = c.stops-1.given
-
-pub shape_of-kinds-in-Completed : goal.shape_of-kinds-in-Completed
-shape_of-kinds-in-Completed c = c.kinds-in-Completed-1.given ∙ c.kinds-1.given
-
 pub returns-in-Completed : goal.returns-in-Completed
 returns-in-Completed c =
     let in_starts : MAXCOLUMNS ≤ length c.args.starts.now =
@@ -146,21 +107,6 @@ returns-in-Completed c =
           (λ h. cells_shown a.d a.piece.now a.n a.i a.p a.bytes.now a.ends.now a.out.now a.o
           c.requires.step_ready _ _ _ _ x _ _ _ _ adv.starts_after adv.ends_after (in_starts) (in_stops) h) rs k hold);
     }
-
-pub shape_of-bytes-in-NeedInput : goal.shape_of-bytes-in-NeedInput
-shape_of-bytes-in-NeedInput c = c.bytes-in-NeedInput-1.given
-
-pub shape_of-ends-in-NeedInput : goal.shape_of-ends-in-NeedInput
-shape_of-ends-in-NeedInput c = c.ends-in-NeedInput-1.given
-
-pub shape_of-starts-in-NeedInput : goal.shape_of-starts-in-NeedInput
-shape_of-starts-in-NeedInput c = c.starts-1.given
-
-pub shape_of-stops-in-NeedInput : goal.shape_of-stops-in-NeedInput
-shape_of-stops-in-NeedInput c = c.stops-1.given
-
-pub shape_of-kinds-in-NeedInput : goal.shape_of-kinds-in-NeedInput
-shape_of-kinds-in-NeedInput c = c.kinds-1.given
 
 pub returns-in-NeedInput : goal.returns-in-NeedInput
 returns-in-NeedInput c =
@@ -181,15 +127,6 @@ returns-in-NeedInput c =
           (λ h. cells_yet a.d a.piece.now a.n a.i a.p a.bytes.now a.ends.now a.out.now a.o c.requires.step_ready _ _ x _ _ _ _
           adv.starts_after adv.ends_after (in_starts) (in_stops) h) (into a.t) rs k hold p;
     }
-
-pub shape_of-starts-in-Failed : goal.shape_of-starts-in-Failed
-shape_of-starts-in-Failed c = c.starts-1.given
-
-pub shape_of-stops-in-Failed : goal.shape_of-stops-in-Failed
-shape_of-stops-in-Failed c = c.stops-1.given
-
-pub shape_of-kinds-in-Failed : goal.shape_of-kinds-in-Failed
-shape_of-kinds-in-Failed c = c.kinds-1.given
 
 pub returns-in-Failed : goal.returns-in-Failed
 returns-in-Failed c =

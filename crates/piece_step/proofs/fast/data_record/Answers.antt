@@ -8,19 +8,8 @@ use Rattle.piece_step.proofs.FastCells.{cells_there, clean_there}
 use Rattle.piece_step.proofs.FastSteps.{next_file, writes_bounds, writes_turns}
 use Rattle.piece_step.proofs.fast.data_record.Goals as goal
 
-pub overflow_sub-piece : goal.overflow_sub-piece
-overflow_sub-piece c = let inside = c.requires.fast_step_ready.inside in omega arith
-
 pub returns-then-piece-i : goal.returns-then-piece-i
 returns-then-piece-i c = record { fast_step_in_bounds = nothing_in_bounds refl; by_index = λ bytes ends done k hold. nothing }
-
-pub returns-then-not-is_between : goal.returns-then-not-is_between
-returns-then-not-is_between c = record { fast_step_in_bounds = nothing_in_bounds refl; by_index = λ bytes ends done k hold. nothing }
-
-pub overflow_sub-n : goal.overflow_sub-n
-overflow_sub-n c =
-    let r = c.requires.fast_step_ready in let at = r.at in
-    let offset = r.offset in omega arith
 
 pub scan-requires : goal.scan-requires
 scan-requires c =

@@ -11,24 +11,6 @@ use Rattle.piece_step.proofs.fast.finish_record.Goals as goal
 pub returns-then-cells-gt-MAX_COLUMNS : goal.returns-then-cells-gt-MAX_COLUMNS
 returns-then-cells-gt-MAX_COLUMNS c = not_found refl
 
-pub slice_bounds-write_record-end : goal.slice_bounds-write_record-end
-slice_bounds-write_record-end c =
-    let m : c.args.cells ≤ 64 = c.if-cells-gt-MAX_COLUMNS.false in
-    let k : 64 ≡ length c.args.starts.now = sym c.requires.scratch.long_starts in
-    sym (length-take-le c.args.cells c.args.starts.now (omega arith))
-
-pub slice_bounds-write_record-end-2 : goal.slice_bounds-write_record-end-2
-slice_bounds-write_record-end-2 c =
-    let m : c.args.cells ≤ 64 = c.if-cells-gt-MAX_COLUMNS.false in
-    let k : 64 ≡ length c.args.stops.now = sym c.requires.scratch.long_stops in
-    sym (length-take-le c.args.cells c.args.stops.now (omega arith))
-
-pub slice_bounds-write_record-end-3 : goal.slice_bounds-write_record-end-3
-slice_bounds-write_record-end-3 c =
-    let m : c.args.cells ≤ 64 = c.if-cells-gt-MAX_COLUMNS.false in
-    let k : 64 ≡ length c.args.kinds.now = sym c.requires.scratch.long_kinds in
-    sym (length-take-le c.args.cells c.args.kinds.now (omega arith))
-
 pub write_record-requires : goal.write_record-requires
 write_record-requires c =
     let m = c.if-cells-gt-MAX_COLUMNS.false in

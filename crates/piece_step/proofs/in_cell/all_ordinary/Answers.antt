@@ -1,13 +1,9 @@
 use native.Mathlib.Omega.{arith}
-use Rattle.model.proofs.Tests.{impossible}
 use Rattle.swar.proofs.Spans.{check_starts, check_word, check_last}
 use Rattle.piece_step.proofs.in_cell.all_ordinary.Goals as goal
 
 pub loop-i-init : goal.loop-i-init
 loop-i-init c = check_starts c.args.s.now (omega arith)
-
-pub returns-then-unordinary-ne0 : goal.returns-then-unordinary-ne0
-returns-then-unordinary-ne0 c = λ e. impossible e
 
 pub loop-i-preserved : goal.loop-i-preserved
 loop-i-preserved c = check_word c.loop-i.invariant c.unordinary.ensures (omega arith) (omega arith) c.word.ensures c.if-unordinary-ne0.false

@@ -12,22 +12,16 @@ returns-then-not-fits c = not_found refl
 pub returns-in_default : goal.returns-in_default
 returns-in_default c = not_found refl
 
-pub returns-in_err-q : goal.returns-in_err-q
-returns-in_err-q c = rw c.from_residual.ensures (not_found refl)
-
 pub returns-then-not-all_ordinary : goal.returns-then-not-all_ordinary
 returns-then-not-all_ordinary c = not_found refl
+
+pub returns-in_err-q : goal.returns-in_err-q
+returns-in_err-q c = rw c.from_residual.ensures (not_found refl)
 
 pub buffer_open-fill-requires : goal.buffer_open-fill-requires
 buffer_open-fill-requires c =
     let fits = c.fits.ensures c.if-not-fits.false in
     omega (arith, fits.in_record_lem, c.requires.in_bounds.fill, c.requires.bytes_len.0)
-
-pub overflow_add-result-2 : goal.overflow_add-result-2
-overflow_add-result-2 c =
-    let fits = c.fits.ensures c.if-not-fits.false in
-    let size = fits.in_record_lem in
-    record { fits = omega arith }
 
 pub returns : goal.returns
 returns c =
