@@ -2,7 +2,7 @@
 use Prim.Native.Nat.{ℕ}
 use mathlib.Core.Path.{◌≡◌, refl, sym, subst, ◌∙◌}
 use Rattle.std.specs.Prelude.{Result, Ok, Err}
-use Rattle.core.specs.Result.{result_and}
+use Rattle.std.specs.Result.{result_and}
 use Rattle.model.specs.declared.Fault.{Fault}
 use Rattle.model.specs.rules.Types.{CheckResult}
 use Rattle.model.proofs.file_laws.CheckResults.{fault_sound}

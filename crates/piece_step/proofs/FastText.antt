@@ -9,7 +9,7 @@ use borrow.Author.Tests.{ne_eqb}
 use Rattle.model.specs.declared.Dialect.{Dialect}
 use Rattle.model.specs.declared.FileState.{FileState}
 use Rattle.std.specs.Prelude.{Option, None, Some, Result, Ok, Err}
-use Rattle.core.specs.Result.{result_and, result_ok}
+use Rattle.std.specs.Result.{result_and, result_ok}
 use Rattle.model.specs.declared.Fault.{Fault}
 use Rattle.model.specs.rules.Types.{CheckResult}
 use Rattle.model.specs.rules.Base.{choose◌then◌else◌}

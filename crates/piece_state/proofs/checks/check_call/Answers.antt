@@ -1,6 +1,6 @@
 -- `piece_state::checks::check_call` meets its contract: the dialects by their numbers, and then the checks between them.
 use mathlib.Core.Path.{sym, ap, ◌∙◌}
-use Rattle.core.specs.Result.{result_ok}
+use Rattle.std.specs.Result.{result_ok}
 use Rattle.std.specs.Prelude.{Err}
 use Rattle.piece_state.proofs.CallChecks.{unknown_source, unknown_target, both_known}
 use Rattle.piece_state.proofs.checks.check_call.Goals as goal
