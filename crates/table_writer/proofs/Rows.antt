@@ -17,7 +17,7 @@ use Rattle.model.specs.declared.Report.{Report}
 use Rattle.model.specs.declared.Target.{Target}
 use Rattle.model.specs.rules.Types.{CheckResult}
 use Rattle.std.specs.Prelude.{Result, Ok, Err}
-use Rattle.core.specs.Result.{result_and}
+use Rattle.std.specs.Result.{result_and}
 use Rattle.model.specs.rules.Base.{Bytes, choose◌then◌else◌, is_empty, over}
 use Rattle.model.specs.rules.Dialect.{into}
 use Rattle.model.specs.rules.Text.{Value, record_text, data_text, table_text, ending}

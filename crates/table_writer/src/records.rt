@@ -1,7 +1,7 @@
 // The records of a table, in two loops: checked and measured, then written. In: the lists of a table's cells. Out: the length of its text
 // or the first fault, then the text in the room. The definitions are `rows_fault` and `table_text` of model's specs/rules. A rule that
 // changes for a record changes a law of proofs/Rows.antt, and no loop.
-ghost use Rattle.core.specs.Result.{result_and};
+ghost use Rattle.std.specs.Result.{result_and};
 ghost use Rattle.std.specs.Prelude.{◌≡◌, true, ◌++◌, ◌*◌, ◌≤◌, length};
 ghost use Rattle.std.specs.Prelude.{Ok};
 ghost use Rattle.model.specs.rules.Base.{over};

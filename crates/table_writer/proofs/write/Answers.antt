@@ -2,7 +2,7 @@
 use mathlib.Core.Path.{sym, ap, ◌∙◌}
 use lib.ListN.{length}
 use Rattle.model.specs.rules.Api.{Table, writer_leaves}
-use Rattle.core.specs.Result.{result_ok}
+use Rattle.std.specs.Result.{result_ok}
 use Rattle.table_writer.specs.TableParts.{given}
 use Rattle.table_writer.proofs.Answers.{refuses, answers_as, in_dialect, no_dialect}
 use Rattle.table_writer.proofs.write.Goals as goal

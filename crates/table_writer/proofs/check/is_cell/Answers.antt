@@ -1,6 +1,6 @@
 -- The kind is checked, then the span, then the bytes.
 use mathlib.Core.Path.{sym, ap, ◌∙◌}
-use Rattle.core.specs.Result.{result_ok}
+use Rattle.std.specs.Result.{result_ok}
 use Rattle.table_writer.proofs.Tables.{cell_unknown, cell_known, cell_backward, cell_beyond}
 use Rattle.table_writer.proofs.check.is_cell.Goals as goal
 
