@@ -30,17 +30,17 @@ pub struct DecodeAnswer {
 fn answer_of(d: Result<Decoded, Report>) -> DecodeAnswer
     ensures { struct_answer result ≡ given_answer d }
 {
-    match d {
-        Ok(Decoded { size, kind }) => DecodeAnswer {
-            report: codes::call_report(codes::ACCEPTED),
-            length: size,
-            kind: u8::from(kind) as usize,
-        },
-        Err(e) => DecodeAnswer {
-            report: e,
+    let Ok(Decoded { size, kind }) = d else {
+        return DecodeAnswer {
+            report: d.unwrap_err(),
             length: 0,
             kind: 0,
-        },
+        };
+    };
+    DecodeAnswer {
+        report: codes::call_report(codes::ACCEPTED),
+        length: size,
+        kind: u8::from(kind) as usize,
     }
 }
 
