@@ -1,8 +1,7 @@
 -- What writers leave in a lent buffer.
-use Rattle.std.specs.Prelude.{ℕ, ◌+◌, ◌≤◌, ◌≡◌, Bool, true, false, length}
+use Rattle.std.specs.Prelude.{ℕ, ◌+◌, ◌≤◌, ◌≡◌, Bool, true, false, length, min}
 use Rattle.model.specs.rules.Base.{Bytes, choose◌then◌else◌}
 use Rattle.model.specs.rules.Report.{MAXFILE}
-use Rattle.std.specs.Prelude.{min}
 pub use Rattle.buffer.specs.Written.{written}
 
 -- an offset as it is measured: at most the limit of a file, so that a text of any length has a measure (§7.1)

@@ -1,6 +1,6 @@
 -- The definition's answers, case by case: the code's answer and the room after the call are those of the definition.
 use mathlib.Core.Path.{◌≡◌, refl, sym, ap, ◌∙◌}
-use Rattle.std.specs.Prelude.{None, Some}
+use Rattle.std.specs.Prelude.{None, Some, Result, Ok, Err}
 use Prim.Native.Nat.{ℕ, ◌<◌, ◌≤◌}
 use lib.ListN.{length}
 use borrow.Author.Tests.{lt-ltb, le-ltb}
@@ -10,7 +10,6 @@ use Rattle.model.specs.declared.Dialect.{Dialect}
 use Rattle.model.specs.declared.Fault.{Fault}
 use Rattle.std.specs.Result.{MatchResult}
 use Rattle.model.specs.rules.Types.{CellCheck}
-use Rattle.std.specs.Prelude.{Result, Ok, Err}
 use Rattle.model.specs.rules.Base.{choose◌then◌else◌, Bytes, over}
 use Rattle.model.specs.rules.Dialect.{dialect_of}
 use Rattle.model.specs.rules.Report.{report, refusal, number_of, column_of}

@@ -1,8 +1,7 @@
 -- What the decoder's answer means: a report, the number of the kind and the length of the content.
-use Rattle.std.specs.Prelude.{ℕ, length}
+use Rattle.std.specs.Prelude.{ℕ, length, Result, Ok, Err}
 use Rattle.model.specs.declared.Report.{Report}
 use Rattle.model.specs.declared.Dialect.{Dialect}
-use Rattle.std.specs.Prelude.{Result, Ok, Err}
 use Rattle.model.specs.rules.Base.{Bytes}
 use Rattle.model.specs.rules.Report.{accepted}
 use Rattle.model.specs.rules.Decode.{kind_number, validate_cell}

@@ -9,8 +9,7 @@ use lib.Seq.{length-take-le}
 use Rattle.model.specs.declared.Dialect.{Dialect}
 use Rattle.model.specs.declared.Char.{Char}
 use Rattle.model.specs.declared.Char.TheVariants.{Whole}
-use Rattle.std.specs.Prelude.{Option}
-use Rattle.std.specs.Prelude.{Some, None}
+use Rattle.std.specs.Prelude.{Option, Some, None}
 use Rattle.model.specs.declared.Cell.{Cell}
 use Rattle.model.specs.declared.CellStep.TheVariants.{More, Stop}
 use Rattle.model.specs.rules.Base.{Bytes}

@@ -1,7 +1,6 @@
 -- Spans of bytes that are skipped at once.
-use Rattle.std.specs.Prelude.{ℕ, ◌+◌, ◌≤◌, ◌<◌, ◌≡◌, Bool, true, not, ◌&&◌}
+use Rattle.std.specs.Prelude.{ℕ, ◌+◌, ◌≤◌, ◌<◌, ◌≡◌, Bool, true, not, ◌&&◌, Some}
 use Rattle.model.specs.declared.Char.TheVariants.{Whole}
-use Rattle.std.specs.Prelude.{Some}
 use Rattle.model.specs.rules.Base.{Bytes, ◌is◌}
 use Rattle.model.specs.rules.Api.{slice}
 use Rattle.swar.specs.Words.{is_clean, all_pass, bytes_of, zero_bytes}

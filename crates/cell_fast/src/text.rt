@@ -91,6 +91,7 @@ pub fn quoted_text(d: Dialect, s: &[u8], at: usize, stop: usize, q: u8) -> TextE
     requires { (at ≤ stop) × (stop ≤ length s.now) × (q ≡ quote_of d) }
     ensures { QuotedText d s.now stop at result.end result.clean }
 {
+    // The offset moves by whole runs.
     let mut i = at;
     let mut clean = true;
     loop {
@@ -114,6 +115,7 @@ pub fn plain_text(s: &[u8], at: usize, stop: usize, p: u8, q: u8) -> usize
     requires { (at ≤ stop) × (stop ≤ length s.now) × (p < 0x80) × (q < 0x80) }
     ensures { TextRun (is_open p q) s.now at stop result }
 {
+    // The offset moves by whole runs.
     let mut i = at;
     loop {
         i = runs::clean_run(s, i, stop, p, q);

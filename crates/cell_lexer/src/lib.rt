@@ -1,6 +1,6 @@
 // The automaton of one cell, a byte at a time, in all three dialects: a state and a byte go in, the next state comes out, or that the
 // cell stops before the byte or refuses it. Each step is the definition's step of the same state (model's specs/rules/Cell.antt), with
-// its tests in the same order; a step that changes needs the proof of its function.
+// its tests in the same order; the prover finds their proofs by itself.
 //
 // `ByteClass` leaves most functions on the path of a byte with one call site, so that the compiler inlines them into the loop that calls
 // them; `make benchmark` measures the effect.

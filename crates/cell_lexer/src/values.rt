@@ -1,6 +1,5 @@
 // The values of CSVJ and the null of TDIF: the step of a number, a word or an escape by a byte, and of the first byte of a cell. Each is
-// the definition's step of the same state (model's specs/rules/Cell.antt), with its tests in the same order. A return is proved from the
-// tests before it.
+// the definition's step of the same state (model's specs/rules/Cell.antt), with its tests in the same order.
 ghost use Rattle.std.specs.Prelude.{◌≡◌};
 ghost use Rattle.model.specs.declared.Dialect.TheVariants.{Csvj, Tdif};
 ghost use Rattle.model.specs.rules.Base.{choose◌then◌else◌};

@@ -1,7 +1,6 @@
 -- The law of runs, over the dialect and over a target or none: a run of n ordinary bytes leaves the state unchanged and adds n to the
 -- offset and, outside comments, to the record's size. It is proved in proofs/RunLaw.antt.
-use Rattle.std.specs.Prelude.{ℕ, ◌+◌, ◌≤◌, ◌≡◌, [], ◌++◌, length, take, drop}
-use Rattle.std.specs.Prelude.{Option}
+use Rattle.std.specs.Prelude.{ℕ, ◌+◌, ◌≤◌, ◌≡◌, [], ◌++◌, length, take, drop, Option}
 use Rattle.model.specs.declared.Dialect.{Dialect}
 use Rattle.model.specs.declared.Target.{Target}
 use Rattle.model.specs.declared.Char.{Char}

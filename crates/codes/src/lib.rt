@@ -1,8 +1,8 @@
-// The rules' numbers, each in one place: limits, dialects and kinds by number, and the reports of faults and of refused calls. Numbers
-// come in from C and go out to it here; the layers above use dialects, kinds and faults by name.
+// The rules' numbers of limits, faults and refused calls, each in one place, and the reports that have them; the layers above use faults by
+// name. The numbers of dialects and kinds are model's (src/numbers.rt).
 //
-// The definitions are model's specs/rules/Report.antt, `dialect_of`, `kind_number` and `kind_named`; specs/Named.antt says what a result
-// means. They are tables: a number that changes there changes its arm here, and no other proof.
+// The definitions are model's specs/rules/Report.antt; specs/Named.antt says what a `TextAnswer` means. They are tables: a number that
+// changes there changes its arm here, and no other proof.
 #![tactic(auto)]
 
 ghost use Rattle.std.specs.Prelude.{◌≡◌};

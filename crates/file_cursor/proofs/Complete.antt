@@ -2,7 +2,7 @@
 use Prim.Native.Nat.{ℕ, suc}
 use mathlib.Core.Path.{◌≡◌, refl}
 use mathlib.Core.Bool.{true, false}
-use Rattle.std.specs.Prelude.{Option, None}
+use Rattle.std.specs.Prelude.{Option, None, Ok, Err}
 use mathlib.Core.List.{List, [], ◌∷◌, ◌++◌}
 use lib.ListN.{length}
 use Rattle.model.specs.declared.Dialect.{Dialect}
@@ -10,7 +10,6 @@ use Rattle.model.specs.declared.Target.{Target}
 use Rattle.model.specs.declared.FileState.{FileState}
 use Rattle.model.specs.declared.Fault.{Fault}
 use Rattle.model.specs.rules.Types.{CheckResult}
-use Rattle.std.specs.Prelude.{Ok, Err}
 use Rattle.model.specs.rules.Base.{choose◌then◌else◌}
 use Rattle.model.specs.rules.Text.{Value}
 use Rattle.model.specs.rules.Report.{report, number_of, column_of, is_at_byte}

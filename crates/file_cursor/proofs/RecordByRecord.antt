@@ -4,7 +4,7 @@ use native.Mathlib.Numerals.{add-one}
 use native.Mathlib.Omega.{arith}
 use mathlib.Core.Path.{◌≡◌, refl, sym, ap, subst, ◌∙◌}
 use mathlib.Core.Bool.{Bool, true, false, ◌&&◌}
-use Rattle.std.specs.Prelude.{Option}
+use Rattle.std.specs.Prelude.{Option, Ok, Err}
 use mathlib.Core.List.{List, [], ◌∷◌}
 use lib.ListN.{length, drop, length-drop}
 use lib.Seq.{drop-drop}
@@ -21,7 +21,6 @@ use Rattle.model.specs.declared.FileState.{FileState}
 use Rattle.model.specs.declared.ByteRole.{ByteRole}
 use Rattle.model.specs.declared.ByteRole.TheVariants.{Outside, Passed, OfCell, Between, Tail, Ends}
 use Rattle.model.specs.rules.Types.{Step}
-use Rattle.std.specs.Prelude.{Ok, Err}
 use Rattle.model.specs.declared.Ending.{Ending}
 use Rattle.model.specs.declared.Ending.TheVariants.{Clean, Final, Cut}
 use Rattle.model.specs.declared.Fault.{Fault}

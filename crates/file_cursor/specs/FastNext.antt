@@ -1,5 +1,5 @@
 -- Soundness of the fast path: a record that it returns is the one that the cursor returns. Of a fallback nothing is claimed.
-use Rattle.std.specs.Prelude.{ℕ, ◌≡◌, Bool, true, false, List, take}
+use Rattle.std.specs.Prelude.{ℕ, ◌≡◌, Bool, true, false, List, take, Option, None, Some, Ok}
 use Rattle.model.specs.declared.Dialect.{Dialect}
 use Rattle.model.specs.declared.FileState.{FileState}
 use Rattle.model.specs.rules.Base.{Bytes, is_empty}
@@ -9,7 +9,6 @@ use Rattle.cell_fast.specs.Ends.{CleanIn}
 use Rattle.file_cursor.specs.declared.Cursor.{Cursor}
 use Rattle.file_cursor.specs.NextRecord.{RecordChecked, Next}
 use Rattle.file_cursor.specs.declared.fast.FastNext.{FastNext}
-use Rattle.std.specs.Prelude.{Option, None, Some, Ok}
 
 -- a complete record with these cells, after the records rs
 pub data FastCheckSound (d : Dialect) (target : Option Dialect) (rs : List Rec) (vs : List Value) (start : ℕ) (f : FileState) (o : ℕ) (clean : Bool) : Option FastNext → Type 0 where

@@ -1,6 +1,5 @@
 -- The result of reading a whole file, with a target or without, given its next record.
-use Rattle.std.specs.Prelude.{ℕ, ◌≡◌, true, List, [], length, drop}
-use Rattle.std.specs.Prelude.{Option}
+use Rattle.std.specs.Prelude.{ℕ, ◌≡◌, true, List, [], length, drop, Option}
 use Rattle.model.specs.rules.Base.{Bytes}
 use Rattle.model.specs.rules.Text.{Value}
 use Rattle.model.specs.rules.Report.{is_at_byte}

@@ -1,6 +1,6 @@
 -- The next record of a file. A byte moves reading as `move` of model's Records says, but a complete record is returned before it is
 -- checked, so that reading a file is a sequence of next records.
-use Rattle.std.specs.Prelude.{ℕ, ◌+◌, ◌≤◌, ◌<◌, true, List, [], ◌∷◌, ◌++◌, length}
+use Rattle.std.specs.Prelude.{ℕ, ◌+◌, ◌≤◌, ◌<◌, true, List, [], ◌∷◌, ◌++◌, length, Ok, Err}
 use Rattle.model.specs.rules.Base.{choose◌then◌else◌, Bytes}
 use Rattle.model.specs.rules.File.{file_step, file_end}
 use Rattle.model.specs.rules.Text.{Value}
@@ -11,7 +11,6 @@ use Rattle.model.specs.declared.FileState.{FileState}
 use Rattle.model.specs.declared.ByteRole.{ByteRole}
 use Rattle.model.specs.declared.ByteRole.TheVariants.{Outside, Passed, OfCell, Between, Tail, Ends}
 use Rattle.model.specs.rules.Types.{Step}
-use Rattle.std.specs.Prelude.{Ok, Err}
 use Rattle.model.specs.declared.Ending.{Ending}
 use Rattle.model.specs.declared.Ending.TheVariants.{Clean, Final, Cut}
 use Rattle.model.specs.declared.Fault.{Fault}

@@ -1,6 +1,6 @@
 // The automaton of a file around its cells, a byte at a time, in all three dialects: a state and a byte go in, the next state and the
 // byte's role come out, or a fault. Each step is the definition's step of the same state (model's specs/rules/File.antt), with its tests
-// in the same order; a step that changes needs the proof of its function.
+// in the same order; the prover finds their proofs by itself.
 //
 // `Dispatched` leaves the cell to the caller, so that most functions on the path of a byte have one call site and the compiler inlines
 // them into the loop that calls them; `make benchmark` measures the effect.

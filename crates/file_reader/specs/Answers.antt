@@ -1,6 +1,5 @@
 -- The reader's answer, as the definition of the call has it.
-use Rattle.std.specs.Prelude.{ℕ, length}
-use Rattle.std.specs.Prelude.{None}
+use Rattle.std.specs.Prelude.{ℕ, length, None}
 use Rattle.model.specs.declared.Dialect.{Dialect}
 use Rattle.model.specs.rules.Base.{Bytes}
 use Rattle.model.specs.rules.Records.{read_file}

@@ -5,9 +5,8 @@
 // with this file.
 #![tactic(auto)]
 
-ghost use Rattle.std.specs.Prelude.{◌≡◌, ◌≤◌, length};
+ghost use Rattle.std.specs.Prelude.{◌≡◌, ◌≤◌, length, min};
 ghost use Rattle.model.specs.rules.Base.{over};
-ghost use Rattle.std.specs.Prelude.{min};
 ghost use Rattle.model.specs.rules.Api.{no_answer, starts_of, ends_of, kinds_of, read_call};
 ghost use Rattle.file_reader.specs.Answers.{call_answer, reader_answer, answer_in};
 ghost use Rattle.file_reader.specs.Headers.{HeaderRead};

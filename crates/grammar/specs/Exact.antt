@@ -1,6 +1,5 @@
 -- The theorems about the grammars as one statement.
-use Rattle.std.specs.Prelude.{ℕ, ◌≡◌, ◌↔◌, false, List}
-use Rattle.std.specs.Prelude.{Option, None}
+use Rattle.std.specs.Prelude.{ℕ, ◌≡◌, ◌↔◌, false, List, Option, None}
 use Rattle.grammar.specs.rfc.Types.{Target, Dialect}
 use Rattle.model.specs.rules.Base.{Bytes}
 use Rattle.model.specs.rules.Report.{accepted}

@@ -1,6 +1,5 @@
 -- Faults 2 and 3 by the grammar: which byte may follow in a file, and which is refused.
-use Rattle.std.specs.Prelude.{ℕ, ◌≡◌, ◌↔◌, false, List, [], ◌∷◌, ◌++◌}
-use Rattle.std.specs.Prelude.{Option}
+use Rattle.std.specs.Prelude.{ℕ, ◌≡◌, ◌↔◌, false, List, [], ◌∷◌, ◌++◌, Option}
 use Rattle.grammar.specs.rfc.Types.{Dialect, Target, ByteFault, Syntax, Byte}
 use Rattle.model.specs.rules.Base.{Bytes}
 use Rattle.model.specs.rules.Records.{Read, stopped, read_bytes}

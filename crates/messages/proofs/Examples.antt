@@ -5,7 +5,6 @@ use Rattle.model.specs.rules.Base.{choose◌then◌else◌, same}
 use Rattle.model.specs.laws.Ascii.{ascii}
 use Rattle.model.specs.rules.Records.{name_key}
 use Rattle.model.specs.rules.Report.{report}
-use Rattle.std.specs.Prelude.{Some, None}
 use Rattle.messages.specs.Words.{dialect_named}
 use Rattle.messages.specs.Sentences.{sentence_of, sentences_compute}
 

@@ -1,8 +1,7 @@
 -- The kinds of a header's cells, by their numbers.
-use Rattle.std.specs.Prelude.{ℕ, suc, not, List, [], ◌∷◌}
+use Rattle.std.specs.Prelude.{ℕ, suc, not, List, [], ◌∷◌, Ok}
 use Rattle.model.specs.declared.Fault.TheVariants.{HeaderKind}
 use Rattle.model.specs.rules.Types.{CheckResult}
-use Rattle.std.specs.Prelude.{Ok}
 use Rattle.model.specs.rules.Text.{is_text}
 use Rattle.model.specs.rules.Records.{◌or_else◌, when}
 use Rattle.cell_decoder.specs.Sources.{kind_from}

@@ -1,13 +1,12 @@
 -- The cells of a record in lists: what a cell of a file is (its span is a whole cell, with the span's kind and content), and what lists of
 -- starts, ends and kinds show of them. For whole files and for pieces alike.
-use Rattle.std.specs.Prelude.{ℕ, ◌+◌, ◌≤◌, ◌≡◌, List, length, take}
+use Rattle.std.specs.Prelude.{ℕ, ◌+◌, ◌≤◌, ◌≡◌, List, length, take, Ok}
 use Rattle.model.specs.rules.Base.{Bytes}
 use Rattle.model.specs.rules.Decode.{kind_of, content_of, validate_cell}
 use Rattle.model.specs.rules.Text.{Value}
 use Rattle.model.specs.rules.Report.{MAXRECORD, MAXCOLUMNS}
 use Rattle.model.specs.rules.Api.{slice}
 use Rattle.model.specs.declared.Dialect.{Dialect}
-use Rattle.std.specs.Prelude.{Ok}
 use Rattle.cell_decoder.specs.declared.source.Source.TheVariants.{File}
 use Rattle.cell_decoder.specs.Sources.{cells_in}
 

@@ -5,11 +5,10 @@
 // takes twice the time. The proof uses the scanner's own laws, one step for each cell (proofs/FastScanInvariant.antt).
 #![tactic(auto)]
 
-ghost use Rattle.std.specs.Prelude.{◌≡◌, true, ◌≤◌, ◌<◌, length, get_or};
+ghost use Rattle.std.specs.Prelude.{◌≡◌, true, ◌≤◌, ◌<◌, length, get_or, Ok};
 ghost use Rattle.model.specs.declared.Dialect.{Dialect};
 ghost use Rattle.model.specs.declared.FileState.TheVariants.{Cr, Ended};
 ghost use Rattle.model.specs.declared.ByteRole.TheVariants.{Tail};
-ghost use Rattle.std.specs.Prelude.{Ok};
 ghost use Rattle.model.specs.rules.Dialect.{delimiter_of};
 ghost use Rattle.model.specs.rules.File.{after_cell};
 ghost use Rattle.model.specs.rules.Report.{MAXFILE};

@@ -35,13 +35,12 @@ use Rattle.model.specs.declared.FileState.TheVariants.{Top, Begin, Ended, Bom1, 
 use Rattle.model.specs.declared.ByteRole.{ByteRole}
 use Rattle.model.specs.declared.ByteRole.TheVariants.{Outside, Passed, OfCell, Between, Tail, Ends}
 use Rattle.model.specs.rules.Types.{Step}
-use Rattle.std.specs.Prelude.{Ok, Err}
+use Rattle.std.specs.Prelude.{Ok, Err, min}
 use Rattle.model.specs.declared.Fault.TheVariants.{Byte}
 use Rattle.record_scanner.specs.Types.{RecordState, Token, Is, Skipped, AfterCell, Refused, Open}
 use Rattle.record_scanner.specs.CurrentRecord.{ends_record, state_after_byte, extended_by}
 use Rattle.record_scanner.specs.Parts.{Found, found_of, found_in}
 use Rattle.record_scanner.specs.declared.token.ScanOutcome.TheVariants as reached
-use Rattle.std.specs.Prelude.{min}
 use Rattle.codes.proofs.Least.{least_first, least_second, least_above}
 use Rattle.record_scanner.specs.Tokens.{scan_at, cells_next, stepped_at, met_next, Free, TokenCorrect, TokenInBounds, comment_end}
 

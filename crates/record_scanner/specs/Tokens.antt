@@ -1,10 +1,9 @@
 -- The next token of a file: a byte outside cells, the rest of a cell up to its end, or the ordinary bytes of a comment.
-use Rattle.std.specs.Prelude.{ℕ, ◌+◌, ◌-◌, ◌≤◌, ◌<◌, ◌≡◌, Bool, true, false, ◌&&◌, List, [], length, drop, get_or, leb}
+use Rattle.std.specs.Prelude.{ℕ, ◌+◌, ◌-◌, ◌≤◌, ◌<◌, ◌≡◌, Bool, true, false, ◌&&◌, List, [], length, drop, get_or, leb, min}
 use Rattle.model.specs.rules.Base.{Bytes}
 use Rattle.model.specs.rules.File.{after_cell, file_step, counts}
 use Rattle.model.specs.rules.Report.{MAXRECORD}
 use Rattle.model.specs.laws.Scans.{RawCell, Scan, closing_raw, scan_step, scan}
-use Rattle.std.specs.Prelude.{min}
 use Rattle.model.specs.rules.Api.{slice}
 use Rattle.cell_scanner.specs.Run.{leading}
 use Rattle.model.specs.declared.Dialect.{Dialect}

@@ -4,7 +4,7 @@ use native.Mathlib.Omega.{arith}
 use mathlib.Core.Path.{◌≡◌, refl, sym, ap, ◌∙◌}
 use mathlib.Core.Logic.{◌≢◌}
 use mathlib.Core.Bool.{Bool, true, false}
-use Rattle.std.specs.Prelude.{Option, None, Some}
+use Rattle.std.specs.Prelude.{Option, None, Some, Ok, Err, min}
 use mathlib.Core.List.{List, [], ◌∷◌, ◌++◌, map}
 use lib.Dec.{leb, ltb}
 use lib.ListN.{length, drop, length-append, length-drop, length-map}
@@ -14,14 +14,12 @@ use Rattle.model.specs.declared.Report.{Report}
 use Rattle.model.specs.declared.Dialect.{Dialect}
 use Rattle.model.specs.declared.Target.{Target}
 use Rattle.model.specs.rules.Types.{CellCheck}
-use Rattle.std.specs.Prelude.{Ok, Err}
 use Rattle.model.specs.rules.Base.{Bytes, choose◌then◌else◌, over, concat}
 use Rattle.model.specs.rules.Dialect.{dialect_of, into}
 use Rattle.model.specs.rules.Decode.{kind_number, content_of, validate_cell}
 use Rattle.model.specs.rules.Text.{Value, table_text}
 use Rattle.model.specs.rules.Report.{accepted, refusal}
 use Rattle.model.specs.rules.Records.{Rec, rows, Progress, going, stopped, read_file}
-use Rattle.std.specs.Prelude.{min}
 use Rattle.model.specs.rules.Api.{Answer, answered, read_answer, reader, starts_of, ends_of, kinds_of, ReadCall, read_call, Decoded, decoded_as}
 use Rattle.model.specs.rules.Api.{decoder, decoder_leaves, Written, fitted, converted_as, converter, converter_leaves, Table, rows_in, rows_fault}
 use Rattle.model.specs.rules.Api.{written_rows, writer, writer_leaves}

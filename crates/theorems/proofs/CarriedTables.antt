@@ -6,7 +6,7 @@ use native.Mathlib.Omega.{arith}
 use mathlib.Core.Path.{◌≡◌, refl, ap}
 use mathlib.Core.Logic.{◌≢◌, ◌↔◌}
 use mathlib.Core.Bool.{Bool, true, false, not, ◌&&◌}
-use Rattle.std.specs.Prelude.{None, Some}
+use Rattle.std.specs.Prelude.{None, Some, Ok}
 use mathlib.Core.List.{List, [], ◌∷◌, ◌++◌}
 use lib.Dec.{ltb}
 use lib.ListN.{length, length-append}
@@ -17,7 +17,6 @@ use Rattle.model.specs.declared.Kind.TheVariants.{Text}
 use Rattle.model.specs.declared.Fault.{Fault}
 use Rattle.model.specs.declared.Fault.TheVariants.{RepeatedName, HeaderKind, TooManyColumns, NoCells, LacksKind, LoneSurrogate, Clash, TextTooLong}
 use Rattle.model.specs.declared.Fault.TheVariants.{OutputTooLong}
-use Rattle.std.specs.Prelude.{Ok}
 use Rattle.model.specs.rules.Base.{Bytes, is_empty, concat, choose◌then◌else◌}
 use Rattle.model.specs.rules.Dialect.{dialect_of, into, is_csvj}
 use Rattle.model.specs.rules.Text.{Value, is_text, record_text, data_text, table_text, ending}

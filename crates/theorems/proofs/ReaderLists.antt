@@ -5,7 +5,7 @@ use Prim.Native.Nat.{ℕ, suc, ◌+◌, ◌≤◌}
 use native.Mathlib.Omega.{arith}
 use mathlib.Core.Path.{◌≡◌, refl, sym, ap, ◌∙◌}
 use mathlib.Core.Logic.{◌≢◌, ◌↔◌}
-use Rattle.std.specs.Prelude.{None, Some}
+use Rattle.std.specs.Prelude.{None, Some, min}
 use mathlib.Core.List.{List, [], ◌∷◌, map, map-map}
 use lib.Dec.{leb}
 use lib.ListN.{length, drop, length-append, length-map}
@@ -18,7 +18,6 @@ use Rattle.model.specs.rules.Decode.{kind_number}
 use Rattle.model.specs.rules.Text.{Value}
 use Rattle.model.specs.rules.Report.{accepted, refusal}
 use Rattle.model.specs.rules.Records.{Rec, rows, Read, Progress, going, read_file}
-use Rattle.std.specs.Prelude.{min}
 use Rattle.model.specs.rules.Api.{Answer, reader, starts_of, ends_of, kinds_of, read_call}
 use Rattle.model.specs.laws.Laws.{All, all_none, all_cons}
 use Rattle.model.specs.laws.RoundTrips.{Decodes}

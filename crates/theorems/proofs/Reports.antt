@@ -3,7 +3,7 @@ use Prim.Native.Nat.{ℕ, ◌≤◌}
 use native.Mathlib.Omega.{arith}
 use mathlib.Core.Path.{◌≡◌, refl, sym, ap, subst, ◌∙◌}
 use mathlib.Core.Bool.{Bool, true, false}
-use Rattle.std.specs.Prelude.{Option, None, Some}
+use Rattle.std.specs.Prelude.{Option, None, Some, Ok, Err}
 use mathlib.Core.List.{List, [], ◌∷◌}
 use lib.Dec.{ltb}
 use lib.ListN.{length}
@@ -12,7 +12,6 @@ use Rattle.model.specs.declared.Report.{Report}
 use Rattle.model.specs.declared.Dialect.{Dialect}
 use Rattle.model.specs.declared.Target.{Target}
 use Rattle.model.specs.rules.Types.{CellCheck}
-use Rattle.std.specs.Prelude.{Ok, Err}
 use Rattle.model.specs.rules.Base.{Bytes, concat}
 use Rattle.model.specs.rules.Dialect.{dialect_of, into}
 use Rattle.model.specs.rules.Decode.{content_of, validate_cell}

@@ -1,8 +1,7 @@
 -- Demands 1 and 2 over the definitions of the public calls: `read_call`, `decoder`, `converter` and `writer` of model's Api, to which
 -- the calls' contracts are equations. Demand 3 over the contract of the piece and end calls, `CallContract` of piece_converter's
 -- Contract, and the ledger of model. Nothing else is here.
-use Rattle.std.specs.Prelude.{ℕ, suc, ◌+◌, ◌*◌, ◌<◌, ◌≤◌, ◌≡◌, ◌≢◌, ◌↔◌, true, false, length, take, drop}
-use Rattle.std.specs.Prelude.{Option, None, Some}
+use Rattle.std.specs.Prelude.{ℕ, suc, ◌+◌, ◌*◌, ◌<◌, ◌≤◌, ◌≡◌, ◌≢◌, ◌↔◌, true, false, length, take, drop, Option, None, Some, Ok, Err}
 use mathlib.Core.List.{List, [], ◌∷◌, ◌++◌, map, zip_with}
 use Rattle.model.specs.declared.Report.{Report}
 use Rattle.model.specs.declared.Dialect.{Dialect}
@@ -10,7 +9,6 @@ use Rattle.model.specs.declared.Kind.TheVariants.{Text}
 use Rattle.model.specs.declared.Fault.{Fault}
 use Rattle.model.specs.declared.Target.{Target}
 use Rattle.model.specs.rules.Types.{CellCheck}
-use Rattle.std.specs.Prelude.{Ok, Err}
 use Rattle.model.specs.rules.Base.{Bytes, concat}
 use Rattle.model.specs.rules.Dialect.{dialect_of, into}
 use Rattle.model.specs.rules.Decode.{kind_number, content_of, validate_cell}

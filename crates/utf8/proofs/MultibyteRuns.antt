@@ -14,8 +14,7 @@ use Rattle.model.specs.declared.Inner.{Inner}
 use Rattle.model.specs.declared.Inner.TheVariants.{Second, LastTwo, Last}
 use Rattle.model.specs.declared.Char.{Char}
 use Rattle.model.specs.declared.Char.TheVariants.{Whole, Within}
-use Rattle.std.specs.Prelude.{Option}
-use Rattle.std.specs.Prelude.{Some, None}
+use Rattle.std.specs.Prelude.{Option, Some, None}
 use Rattle.model.specs.rules.Base.{Bytes, choose◌then◌else◌, within}
 use Rattle.model.specs.rules.Utf8.{row_of, leads, lead_byte, after_second, inner_step, char_step, is_later}
 use Rattle.model.specs.rules.Api.{slice}

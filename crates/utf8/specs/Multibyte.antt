@@ -1,8 +1,7 @@
 -- Runs of whole non-ASCII characters (§2.11).
-use Rattle.std.specs.Prelude.{ℕ, ◌≤◌, ◌<◌, ◌≡◌, Bool, true, ◌&&◌, [], ◌∷◌, leb}
+use Rattle.std.specs.Prelude.{ℕ, ◌≤◌, ◌<◌, ◌≡◌, Bool, true, ◌&&◌, [], ◌∷◌, leb, Option, Some, None, IfSome}
 use Rattle.model.specs.declared.Char.{Char}
 use Rattle.model.specs.declared.Char.TheVariants.{Whole}
-use Rattle.std.specs.Prelude.{Option, Some, None, IfSome}
 use Rattle.model.specs.rules.Base.{Bytes}
 use Rattle.model.specs.rules.Utf8.{char_step}
 use Rattle.model.specs.rules.Api.{slice}

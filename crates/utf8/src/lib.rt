@@ -2,8 +2,7 @@
 // out, or that the text is broken; a code point goes in, and its bytes come out. The definitions are those of model's
 // specs/rules/Utf8.antt (char_step, pack, joined); specs/Codes.antt says what is returned for a number that is no code point.
 //
-// The prover compares the table with the definition's rows entry by entry (proofs/Table.antt): a row that changes in both needs no new
-// proof. A return is proved from the tests before it, so a changed test needs the proof of its function again.
+// The prover compares the table with the definition's rows: a row that changes in both needs no new proof.
 #![tactic(auto)]
 
 ghost use Rattle.std.specs.Prelude.{◌≡◌, ◌+◌, ◌%◌};

@@ -1,6 +1,5 @@
 -- Demand 3 as statements over the definitions, with demand 2's round trip. Proved in proofs/AllDemands.antt.
-use Rattle.std.specs.Prelude.{ℕ, ◌≤◌, ◌≡◌, true, false, List, [], ◌∷◌, ◌++◌, map, length}
-use Rattle.std.specs.Prelude.{None, Some}
+use Rattle.std.specs.Prelude.{ℕ, ◌≤◌, ◌≡◌, true, false, List, [], ◌∷◌, ◌++◌, map, length, None, Some}
 use Rattle.model.specs.rules.Types.{Report, Dialect, Target}
 use Rattle.model.specs.rules.Base.{choose◌then◌else◌, Bytes, concat}
 use Rattle.model.specs.rules.Dialect.{dialect_of, into}

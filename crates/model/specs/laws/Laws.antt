@@ -1,6 +1,5 @@
 -- The laws of the definitions, as statements over any dialect, with a target or without. Proved in proofs/Laws.antt.
-use Rattle.std.specs.Prelude.{ℕ, ◌+◌, ◌*◌, ◌≤◌, ◌≡◌, ◌↔◌, Bool, true, false, List, [], ◌∷◌, ◌++◌, length}
-use Rattle.std.specs.Prelude.{Option}
+use Rattle.std.specs.Prelude.{ℕ, ◌+◌, ◌*◌, ◌≤◌, ◌≡◌, ◌↔◌, Bool, true, false, List, [], ◌∷◌, ◌++◌, length, Option}
 use Rattle.model.specs.rules.Types.{Dialect, Target, FileState, ByteFault, Encoding, Syntax, Fault, Byte, Ok}
 use Rattle.model.specs.rules.Base.{Bytes}
 use Rattle.model.specs.rules.Utf8.{is_content}

@@ -1,7 +1,6 @@
 -- The ledger as a state machine, one call at a time. All that a converter needs from the earlier calls is the reading state, or the
 -- fault found, or that the end was accepted. Proved in proofs/piece_laws/MachineLaws.antt.
-use Rattle.std.specs.Prelude.{ℕ, ◌≡◌, Bool, true, false, List, [], ◌∷◌, ◌++◌, length, drop}
-use Rattle.std.specs.Prelude.{None, Some}
+use Rattle.std.specs.Prelude.{ℕ, ◌≡◌, Bool, true, false, List, [], ◌∷◌, ◌++◌, length, drop, None, Some}
 use Rattle.model.specs.rules.Types.{Report, Dialect, Target, Fault}
 use Rattle.model.specs.rules.Base.{choose◌then◌else◌, Bytes, is_empty}
 use Rattle.model.specs.rules.Dialect.{dialect_of, into}

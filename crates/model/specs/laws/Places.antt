@@ -1,7 +1,6 @@
 -- Where cells lie. The checks of a record and its text do not depend on it (`PlaceFree`), so a converter may buffer a record's bytes
 -- elsewhere, one cell after another (`BufferedCells`). And the raw cells of a scan are spans of the bytes scanned (`Spans`).
-use Rattle.std.specs.Prelude.{ℕ, suc, ◌+◌, ◌≤◌, ◌≡◌, Bool, List, [], ◌∷◌, ◌++◌, map, length, drop}
-use Rattle.std.specs.Prelude.{Option}
+use Rattle.std.specs.Prelude.{ℕ, suc, ◌+◌, ◌≤◌, ◌≡◌, Bool, List, [], ◌∷◌, ◌++◌, map, length, drop, Option}
 use Rattle.model.specs.rules.Types.{Dialect, Target, Fault, FileState}
 use Rattle.model.specs.rules.Base.{Bytes}
 use Rattle.model.specs.rules.Decode.{kind_of, content_of}

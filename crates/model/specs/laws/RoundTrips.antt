@@ -1,6 +1,5 @@
 -- The round trips, written and read back, as statements over any dialect. Proved in proofs/round_trip/AllTrips.antt.
-use Rattle.std.specs.Prelude.{ℕ, suc, ◌+◌, ◌≤◌, ◌≡◌, Bool, true, false, not, ◌&&◌, List, [], ◌∷◌, ◌++◌, map, length}
-use Rattle.std.specs.Prelude.{Option, None, Some}
+use Rattle.std.specs.Prelude.{ℕ, suc, ◌+◌, ◌≤◌, ◌≡◌, Bool, true, false, not, ◌&&◌, List, [], ◌∷◌, ◌++◌, map, length, Option, None, Some}
 use Rattle.model.specs.rules.Types.{Kind, Dialect, Target, FileState, Top, Begin, Ok}
 use Rattle.model.specs.rules.Base.{Bytes, is_empty, concat}
 use Rattle.model.specs.rules.Dialect.{into, is_csvj}

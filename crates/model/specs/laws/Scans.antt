@@ -2,8 +2,7 @@
 -- bytes, without kind or content. The laws that relate it to `read_from` of Records are stated here and proved in proofs/piece_laws:
 -- reading is scanning from record to record, with or without a target (`ScanReads`); places may be counted from anywhere (`Shift`);
 -- and what was read before the part may be prepended afterwards (`View`).
-use Rattle.std.specs.Prelude.{ℕ, suc, ◌+◌, ◌-◌, ◌≤◌, ◌≡◌, Bool, true, false, ◌&&◌, List, [], ◌∷◌, ◌++◌, map, length, leb}
-use Rattle.std.specs.Prelude.{Option}
+use Rattle.std.specs.Prelude.{ℕ, suc, ◌+◌, ◌-◌, ◌≤◌, ◌≡◌, Bool, true, false, ◌&&◌, List, [], ◌∷◌, ◌++◌, map, length, leb, Option}
 use Rattle.model.specs.rules.Types.{Dialect, Target, FileState, Top, Begin, Ended, Bom1, Bom2, PlainBom1, PlainBom2, Comment, Blanks}
 use Rattle.model.specs.rules.Types.{ExpectCell, Inside, After, Cr, Outside, Passed, OfCell, Between, Tail, Ends, Step, Ok, Err, Fault, Byte}
 use Rattle.model.specs.rules.Types.{FileTooLong, RecordTooLong}

@@ -1,7 +1,6 @@
 -- Reading with a target is reading without one, and then fault 9: a converter may scan first and check the target afterwards, record
 -- by record. Proved in proofs/TargetLaws.antt.
-use Rattle.std.specs.Prelude.{ℕ, suc, ◌≡◌, List, [], ◌∷◌, ◌++◌, length}
-use Rattle.std.specs.Prelude.{None, Some}
+use Rattle.std.specs.Prelude.{ℕ, suc, ◌≡◌, List, [], ◌∷◌, ◌++◌, length, None, Some}
 use Rattle.model.specs.rules.Types.{Report, Dialect, Target, Fault, Ok, Err}
 use Rattle.model.specs.rules.Base.{Bytes}
 use Rattle.model.specs.rules.Text.{Value}

@@ -1,6 +1,5 @@
 -- Dialects by number, and the characters that each separates and quotes cells with.
-use Rattle.std.specs.Prelude.{ℕ, Bool, true, false}
-use Rattle.std.specs.Prelude.{Option, None, Some}
+use Rattle.std.specs.Prelude.{ℕ, Bool, true, false, Option, None, Some}
 use Rattle.model.specs.rules.Types.{Delimiter, Comma, Semicolon, Tab, Bar, Quote, Double, Single, Settings, Dialect, Csvj, Tdif, CsvPlus, Target}
 use Rattle.model.specs.rules.Base.{choose◌then◌else◌, ◌is◌, COMMA, QUOTE}
 

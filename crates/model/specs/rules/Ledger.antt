@@ -1,6 +1,5 @@
 -- The ledger of piece and end calls: the answer to each call of a list, by the calls before it and their own reports.
-use Rattle.std.specs.Prelude.{ℕ, Bool, true, false, ◌&&◌, ◌||◌, List, [], ◌∷◌, ◌++◌, map, length, drop, ltb}
-use Rattle.std.specs.Prelude.{Option, None, Some}
+use Rattle.std.specs.Prelude.{ℕ, Bool, true, false, ◌&&◌, ◌||◌, List, [], ◌∷◌, ◌++◌, map, length, drop, ltb, Option, None, Some}
 use Rattle.model.specs.rules.Types.{Report, Dialect, Target}
 use Rattle.model.specs.rules.Base.{choose◌then◌else◌, ◌is◌, within, Bytes, over}
 use Rattle.model.specs.rules.Dialect.{dialect_of, into}

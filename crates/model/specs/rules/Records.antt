@@ -1,6 +1,5 @@
 -- The checks of a complete record, and reading, over any dialect: offsets, record numbers, limits, spans.
-use Rattle.std.specs.Prelude.{ℕ, suc, ◌+◌, Bool, true, false, not, ◌&&◌, List, [], ◌∷◌, ◌++◌, map, length, leb, ltb, eqb}
-use Rattle.std.specs.Prelude.{Option, None, Some}
+use Rattle.std.specs.Prelude.{ℕ, suc, ◌+◌, Bool, true, false, not, ◌&&◌, List, [], ◌∷◌, ◌++◌, map, length, leb, ltb, eqb, Option, None, Some}
 use Rattle.model.specs.rules.Types.{Report, Kind, Text, Number, True, False, Null, Dialect, Csvj, Tdif, CsvPlus, Target}
 use Rattle.model.specs.rules.Types.{FileState, Top, Begin, Outside, Passed, OfCell, Between, Tail, Ends, Step, Ok, Err, Ending, Clean, Final, Cut}
 use Rattle.model.specs.rules.Types.{Fault, NoRecord, Byte, CutShort, CellCount, RepeatedName, HeaderKind, FileTooLong, RecordTooLong}

@@ -55,6 +55,6 @@ CheckResult = Result (Unit {0}) Fault
 abbrev pub CellCheck : Type 0
 CellCheck = Result (Unit {0}) CellFault
 
--- a fault at this byte of a raw cell (§11.5)
+-- a fault at this byte of a raw cell (§11.2 §11.4)
 abbrev pub cell_fault : Fault → ℕ → CellFault
 cell_fault e i = record { fault = e; offset = i }
