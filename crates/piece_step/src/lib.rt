@@ -98,10 +98,7 @@ fn record_start(p: Place, n: usize, i: usize, start: usize) -> usize
     requires { n + start < 2 ^ 64 }
     ensures { result ≡ start_from p n i start }
 {
-    if start == i {
-        return p.start;
-    }
-    n + start
+    if start == i { p.start } else { n + start }
 }
 
 // ---- the piece ends
@@ -161,7 +158,7 @@ fn buffer_rest(
 
 // ---- a step
 
-// The result of a step.
+// The result of a step. It has four ways, and so it is no Option or Result.
 #[derive(Clone, Copy)]
 pub enum PieceStep {
     // A record was written, up to `end` of the output. The next step begins at `place`, which is index `at` of the piece.
@@ -185,10 +182,7 @@ pub struct CallResult {
 fn columns_with(p: Place, cells: usize) -> usize
     ensures { result ≡ columns_with p cells }
 {
-    if p.records == 0 {
-        return cells;
-    }
-    p.columns
+    if p.records == 0 { cells } else { p.columns }
 }
 
 // The result of a step whose record of `total` cells is complete, by what piece_record returned.
@@ -232,7 +226,8 @@ fn after_record(
     }
 }
 
-// One step, from index i of the piece on; n bytes were consumed before the piece.
+// One step, from index i of the piece on; n bytes were consumed before the piece. `starts`, `stops` and `kinds` are scratch lists, which
+// each step overwrites. There is no struct of them, since the scanner takes three slices.
 pub fn step(
     d: Dialect,
     t: Dialect,
