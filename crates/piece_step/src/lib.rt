@@ -14,7 +14,7 @@ ghost use Rattle.model.specs.laws.Scans.{Buffered};
 ghost use Rattle.model.specs.laws.Places.{buffered_bytes, buffered_ends};
 ghost use Rattle.buffer.specs.Writes.{written};
 ghost use Rattle.piece_state.specs.CurrentRecord.{SpansIn, raw_cells_at};
-ghost use Rattle.piece_step.specs.Invariant.{start_from, StateInvariant, columns_with};
+ghost use Rattle.piece_step.specs.Invariant.{start_from, StateInvariant};
 ghost use Rattle.piece_step.specs.Steps.{Scratch, Lists, RecordCompleted, place_at_piece_end, RecordBuffered, step_after, Fitting, StepReady, StepInBounds, StepSound};
 
 use codes::{MAX_COLUMNS, MAX_FILE};
@@ -179,12 +179,6 @@ pub struct CallResult {
     pub length: usize,
 }
 
-fn columns_with(p: Place, cells: usize) -> usize
-    ensures { result ≡ columns_with p cells }
-{
-    if p.records == 0 { cells } else { p.columns }
-}
-
 // The result of a step whose record of `total` cells is complete, by what piece_record returned.
 fn after_record(
     r: Result<usize, RecordError>,
@@ -203,17 +197,7 @@ fn after_record(
 {
     match r {
         Ok(end) => PieceStep::Next {
-            place: Place {
-                state,
-                offset: n + next,
-                start: n + next,
-                size: 0,
-                fill: 0,
-                cells: 0,
-                columns: columns_with(p, total),
-                records: p.records + 1,
-                written: p.written + (end - o),
-            },
+            place: p.after_record(total, end - o, state, n + next),
             at: next,
             end,
         },
