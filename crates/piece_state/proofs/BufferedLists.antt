@@ -11,7 +11,7 @@ use Rattle.model.specs.rules.Api.{slice, kinds_of}
 use Rattle.model.specs.laws.Scans.{RawCell}
 use Rattle.model.specs.laws.Places.{values_in, buffered_bytes, buffered_ends}
 use Rattle.buffer.specs.Writes.{written}
-use Rattle.buffer.proofs.WriteProgress.{drop_next, Writing, start, put, here, store, room_left, done, filled}
+use Rattle.buffer.proofs.WriteProgress.{drop_next, Writing, start, put, store, room_left, done, filled}
 use Rattle.piece_state.specs.CurrentRecord.{raw_cell_in, raw_cells_in, raw_cells_at, SpansIn, kinds_at}
 
 -- ---- one index more
@@ -101,9 +101,6 @@ module _ {piece : Bytes} {starts stops : List ℕ} {from n : ℕ} {bytes₀ : By
                 (buffered_bytes (raw_cells_at piece starts stops (k + 1) n)),
           )
 
-      pub end_fits : k < length ends
-      end_fits = here ends_next
-
       -- it is buffered
       pub kept_next :
           {bytes' : Bytes} {r : ℕ} →
@@ -155,9 +152,6 @@ module _ {ends : List ℕ} {n : ℕ} {starts₀ : List ℕ} where
           let m : n - k ≡ suc (n - (k + 1)) = omega arith in
           rw (m, drop_next ends k (k + 1) (omega (arith, p.in_ends)) refl) at p.starts_go
 
-      pub start_fits : k < length starts
-      start_fits = here starts_next
-
       pub started : Starting ends n starts₀ (set starts k at) (k + 1) (get_or ends k 0)
       started = record { upper = omega arith; in_ends = p.in_ends; starts_go = store starts_next }
 
@@ -199,9 +193,6 @@ module _ {d : Dialect} {bytes : Bytes} {starts ends : List ℕ} {n : ℕ} {kinds
           (kind_number (kind_of d (slice bytes (get_or starts k 0) (get_or ends k 0))) ∷ kinds_from d bytes starts ends (k + 1) n)
       unfolding values_in
       kinds_next = rw (shown_next starts k n h p.stand.in_starts, shown_next ends k n h p.stand.in_stops) at p.kinds_go
-
-      pub kind_fits : k < length kinds
-      kind_fits = here kinds_next
 
       pub sorted :
           {r : ℕ} → r ≡ kind_number (kind_of d (slice bytes (get_or starts k 0) (get_or ends k 0))) → Sorting d bytes starts ends n kinds₀ (set kinds k r) (k + 1)

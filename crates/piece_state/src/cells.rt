@@ -30,6 +30,7 @@ pub fn buffer_cells(
     ensures ends_after { ends.new ≡ written ends.old from (buffered_ends fill (raw_cells_at piece.now starts.now stops.now from n)) }
 {
     let mut at = fill;
+    // By place: three lists are indexed at once.
     for k in from..n {
         at = buffer::copy(bytes, at, &piece[starts[k]..stops[k]]);
         ends[k] = at;
@@ -52,6 +53,7 @@ pub fn starts_of(ends: &[usize], n: usize, starts: &mut [usize])
     ensures { starts.new ≡ over (take n (0 ∷ ends.now)) starts.old }
 {
     let mut at = 0;
+    // By place: the end of one cell is the start of the next.
     for k in 0..n {
         starts[k] = at;
         at = ends[k];
@@ -71,6 +73,7 @@ pub fn kinds_of(
     requires n_in_bounds { n ≤ length kinds.old }
     ensures { kinds.new ≡ over (kinds_at d bytes.now starts.now ends.now n) kinds.old }
 {
+    // By place: a span's start and end are in two lists.
     for k in 0..n {
         kinds[k] = u8::from(cell::kind_of(d, &bytes[starts[k]..ends[k]]));
     }

@@ -10,7 +10,8 @@ ghost use Rattle.piece_state.specs.Sound.{buffered_in_record, in_order};
 use crate::place::Place;
 use model::{Dialect, FileState, Report};
 
-// The checks of a call between two known dialects. `fault.number` is 0 until a fault is met, and `ended` is 0 until an end is accepted.
+// The checks of a call between two known dialects. `fault.number` is 0 until a fault is met, and `ended` is 0 until an end is accepted:
+// both are numbers that C saves in its struct.
 fn check_between(
     d: Dialect,
     t: Dialect,

@@ -1,7 +1,7 @@
 // Where a conversion is between two calls, as numbers. `StateInvariant` (specs/Invariant.antt of piece_step) says which position of the
 // reader they represent: a new field belongs there too, and in the numbers of piece_converter's state.rt.
-ghost use Rattle.std.specs.Prelude.{◌≡◌};
-ghost use Rattle.piece_state.specs.Sound.{at_start};
+ghost use Rattle.std.specs.Prelude.{◌≡◌, ◌+◌, ◌<◌, ◌^◌};
+ghost use Rattle.piece_state.specs.Sound.{at_start, place_after};
 
 use model::FileState;
 
@@ -36,5 +36,29 @@ pub fn at_start() -> Place
         columns: 0,
         records: 0,
         written: 0,
+    }
+}
+
+impl Place {
+    // After a record of `cells` cells, whose text has `size` bytes: the next one starts at `offset`.
+    pub fn after_record(self, cells: usize, size: usize, state: FileState, offset: usize) -> Place
+        requires { (self.records + 1 < 2 ^ 64) × (self.written + size < 2 ^ 64) }
+        ensures { result ≡ place_after self cells size state offset }
+    {
+        Place {
+            state,
+            offset,
+            start: offset,
+            size: 0,
+            fill: 0,
+            cells: 0,
+            columns: if self.records == 0 {
+                cells
+            } else {
+                self.columns
+            },
+            records: self.records + 1,
+            written: self.written + size,
+        }
     }
 }

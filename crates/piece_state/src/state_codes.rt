@@ -1,6 +1,7 @@
 // Lexer states as numbers, so that a saved state is plain numbers. Every number decodes to some state, and the number of a state to that
 // state. Definitions: specs/Codes.antt. A new state needs a number of its own, and `state_back` of proofs/Codes.antt again. They are
-// functions, not `From`: the states are model's, and an impl for them would have to be there.
+// functions, not `From`: the states are model's, and an impl for them would have to be there. Each pair is a table of one enum, for which a
+// match is plainest.
 ghost use Rattle.std.specs.Prelude.{◌≡◌};
 ghost use Rattle.piece_state.specs.Codes.{lead_number, lead_from, inner_number, inner_from, char_number, char_from, hex_number, hex_from, numeral_number, numeral_from, word_number, word_from, cell_number, cell_from, state_number, state_from};
 

@@ -23,13 +23,13 @@ use Rattle.model.proofs.Tests.{split, impossible}
 use Rattle.model.proofs.file_laws.CheckResults.{target_sound}
 use Rattle.buffer.specs.Writes.{written}
 use Rattle.piece_state.specs.declared.place.Place.{Place}
-use Rattle.piece_state.specs.Sound.{order_end}
+use Rattle.piece_state.specs.Sound.{order_end, place_after}
 use Rattle.piece_record.specs.Completion.{fault_at, text_at}
 use Rattle.record_fast.specs.declared.FastRecord.{FastRecord}
 use Rattle.record_fast.specs.FastScan.{FastScanSound}
 use Rattle.cell_decoder.specs.declared.source.Source.TheVariants.{File}
 use Rattle.cell_decoder.specs.Sources.{cells_in}
-use Rattle.piece_step.specs.Invariant.{read_at, StateInvariant, place_after, buffered_none}
+use Rattle.piece_step.specs.Invariant.{read_at, StateInvariant, buffered_none}
 use Rattle.piece_step.specs.Steps.{Scratch, InBounds}
 use Rattle.piece_step.proofs.StepOutcomes as turning
 use Rattle.piece_step.proofs.StepOutcomes.{all_cells, in_file, values_now, done_then, place_then, sound_reads, text_here, sound_holds}

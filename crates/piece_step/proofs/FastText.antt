@@ -20,7 +20,7 @@ use Rattle.model.specs.rules.Records.{data_fault, target_fault}
 use Rattle.model.proofs.file_laws.CheckResults.{target_sound}
 use Rattle.buffer.specs.Writes.{written}
 use Rattle.piece_state.specs.declared.place.Place.{Place}
-use Rattle.piece_step.specs.Invariant.{columns_with}
+use Rattle.piece_state.specs.Sound.{columns_with, place_after}
 use Rattle.piece_step.specs.FastSteps.{next_step, FastTextSound, up_to, no_text, FastStepWrites, at_next}
 
 other : {A : Type 0} → ◌≡◌ {A = ℕ} 0 1 → A
@@ -73,20 +73,10 @@ pub written_place :
     (p.records ≡ 0 → ⊥) → cells ≤ MAXCOLUMNS →
     UpTo t p.columns p.written vs o out out' end →
     FastStepWrites t p n next f cells vs o out out'
-    (Some (next_step (record {
-      state = f;
-      offset = n + next;
-      start = n + next;
-      size = 0;
-      fill = 0;
-      cells = 0;
-      columns = p.columns;
-      records = p.records + 1;
-      written = p.written + (end - o);
-    }) next end))
+    (Some (next_step (place_after p cells (end - o) f (n + next)) next end))
 unfolding choose◌then◌else◌
 written_place {t} {p} {vs} {o} {out} {out'} {end} n next f cells l few y =
-    let c : columns_with p (length vs) ≡ p.columns = rw (ne_eqb p.records 0 l) in
+    let c : columns_with p (length vs) ≡ columns_with p cells = rw (ne_eqb p.records 0 l) in
     subst (λ (m : ℕ). FastStepWrites t p n next f cells vs o out out'
     (Some (next_step (record {
       state = f;

@@ -28,10 +28,10 @@ use Rattle.model.proofs.round_trip.TableText.{table_snoc}
 use Rattle.model.proofs.round_trip.Meanings.{same_length}
 use Rattle.model.specs.rules.Api.{slice}
 use Rattle.model.proofs.cell_laws.Cells.{cell_at}
-use Rattle.piece_state.specs.Sound.{at_start}
+use Rattle.piece_state.specs.Sound.{at_start, columns_with, place_after}
 use Rattle.piece_step.specs.Types.{Dialect, Target, Fresh, FileState, Fault, Ok, Err}
 use Rattle.piece_state.specs.declared.place.Place.{Place}
-use Rattle.piece_step.specs.Invariant.{no_bytes, IsWhole, scan_at, read_at, columns_of, Shown, StateInvariant, columns_with, place_after, buffered_none}
+use Rattle.piece_step.specs.Invariant.{no_bytes, IsWhole, scan_at, read_at, columns_of, Shown, StateInvariant, buffered_none}
 use Rattle.piece_step.specs.Invariant.{start_from, place_pending}
 use Rattle.piece_step.specs.Steps.{Follows}
 use Rattle.piece_record.specs.Completion.{fault_at, text_at}

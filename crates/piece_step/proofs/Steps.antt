@@ -24,7 +24,7 @@ use Rattle.model.proofs.file_laws.CheckResults.{else_sound, target_sound}
 use Rattle.model.proofs.round_trip.Meanings.{same_length}
 use Rattle.model.proofs.piece_laws.PlaceLaws.{stretches}
 use Rattle.buffer.specs.Writes.{written}
-use Rattle.piece_state.specs.Sound.{InOrder, order_end}
+use Rattle.piece_state.specs.Sound.{InOrder, order_end, place_after}
 use Rattle.piece_state.specs.CurrentRecord.{Shows, CurrentRecord, raw_cells_at}
 use Rattle.piece_state.proofs.CurrentRecord.{shown_are, shown_lie}
 use Rattle.record_scanner.specs.Stored.{stored_from}
@@ -33,7 +33,7 @@ use Rattle.piece_state.specs.declared.place.Place.{Place}
 use Rattle.piece_step.specs.Types.{Dialect, Target, FileState, Outside, Passed, OfCell, Between, Tail, Ends, Step, Ok, Err, Fault, TooManyColumns}
 use Rattle.piece_step.specs.Types.{CheckResult, Ok, Err}
 use Rattle.piece_record.specs.declared.RecordError.TheVariants.{Refused, Invalid}
-use Rattle.piece_step.specs.Invariant.{scan_at, read_at, Shown, StateInvariant, place_after, buffered_none, start_from, place_pending}
+use Rattle.piece_step.specs.Invariant.{scan_at, read_at, Shown, StateInvariant, buffered_none, start_from, place_pending}
 use Rattle.piece_record.specs.Completion.{fault_at, text_at, FinishSound, is_written, is_refused, has_no_room, CompleteSound, not_encoded, ruled, buffered_values, RecordResult}
 use Rattle.piece_step.specs.declared.PieceStep.TheVariants.{Failed, NeedInput}
 use Rattle.piece_step.specs.Steps.{InBounds, Lists, RecordCompleted, too_many, from_buffered, place_at_piece_end, RecordBuffered, too_many_yet, buffered_on}

@@ -15,7 +15,8 @@ use Rattle.model.specs.laws.Scans.{Buffered}
 use Rattle.buffer.specs.Writes.{written}
 use Rattle.piece_state.specs.declared.place.Place.{Place}
 use Rattle.piece_step.specs.declared.fast.Next.{Next}
-use Rattle.piece_step.specs.Invariant.{read_at, StateInvariant, place_after}
+use Rattle.piece_state.specs.Sound.{place_after}
+use Rattle.piece_step.specs.Invariant.{read_at, StateInvariant}
 use Rattle.piece_step.specs.Steps.{InBounds}
 
 -- a record was written up to `end`, and the next step begins at this place and index

@@ -83,25 +83,6 @@ pub record StateInvariant (d : Dialect) (t : Target) (p : Place) (bytes ends : L
 
 -- ---- a complete record
 
--- the columns of the table once this record is complete
-abbrev pub columns_with : Place → (cells : ℕ) → ℕ
-columns_with p cells = choose p.records is 0 then cells else p.columns
-
--- the place after a record
-abbrev pub place_after : Place → (cells size : ℕ) → FileState → (offset : ℕ) → Place
-place_after p cells size f o =
-    record {
-      state = f;
-      offset = o;
-      start = o;
-      size = 0;
-      fill = 0;
-      cells = 0;
-      columns = columns_with p cells;
-      records = p.records + 1;
-      written = p.written + size;
-    }
-
 -- nothing is buffered after a record
 abbrev pub buffered_none : (offset : ℕ) → Buffered
 buffered_none o = record { start = o; opened = o; raw = []; cells = [] }

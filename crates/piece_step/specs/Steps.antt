@@ -16,8 +16,8 @@ use Rattle.piece_state.specs.declared.place.Place.{Place}
 use Rattle.piece_record.specs.declared.RecordError.TheVariants.{Refused, Invalid}
 use Rattle.piece_step.specs.declared.PieceStep.{PieceStep}
 use Rattle.piece_step.specs.declared.PieceStep.TheVariants.{Next, NeedInput, Failed, BadState}
-use Rattle.piece_step.specs.Invariant.{scan_at, read_at, StateInvariant, start_from, place_after}
-use Rattle.piece_state.specs.Sound.{InOrder}
+use Rattle.piece_step.specs.Invariant.{scan_at, read_at, StateInvariant, start_from}
+use Rattle.piece_state.specs.Sound.{InOrder, place_after}
 use Rattle.piece_record.specs.Completion.{RecordResult, CompleteSound}
 
 -- ---- staying in bounds

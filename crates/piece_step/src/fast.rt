@@ -104,17 +104,7 @@ fn finish_record(
         o,
     )?;
     Some(Next {
-        place: Place {
-            state,
-            offset: n + next,
-            start: n + next,
-            size: 0,
-            fill: 0,
-            cells: 0,
-            records: p.records + 1,
-            written: p.written + (end - o),
-            ..p
-        },
+        place: p.after_record(cells, end - o, state, n + next),
         at: next,
         end,
     })

@@ -1,9 +1,8 @@
 // The fast path over a piece that lies inside one cell: if all its bytes are ordinary ASCII they are buffered, and nothing else is to be
 // done. It returns the result of a step, or falls back. Long texts in small pieces take this path. Definition: `InCellSound`
 // (specs/InCell.antt); proofs/InCell.antt follows the scan over ordinary bytes.
-ghost use Rattle.std.specs.Prelude.{◌≡◌, true, ◌+◌, ◌≤◌, length};
+ghost use Rattle.std.specs.Prelude.{◌≡◌, true, ◌≤◌, length};
 ghost use Rattle.model.specs.rules.Report.{MAXFILE, MAXRECORD, MAXCOLUMNS};
-ghost use Rattle.swar.specs.Words.{ordinary, AllIn};
 ghost use Rattle.piece_step.specs.Steps.{InBounds};
 ghost use Rattle.piece_step.specs.InCell.{Fits, InCellSound};
 
@@ -11,20 +10,7 @@ use codes::{MAX_COLUMNS, MAX_FILE, MAX_RECORD};
 use model::{Dialect, FileState};
 use piece_state::cells;
 use piece_state::place::Place;
-
-// Whether all bytes are 0x20 to 0x7E, and neither p nor q. The loop steps by words, and its last word overlaps the one before.
-fn all_ordinary(s: &[u8], p: u8, q: u8) -> bool
-    ensures { result ≡ true → AllIn (ordinary p q) s.now 0 (length s.now) }
-{
-    let mut i = 0;
-    while 8 < s.len() - i {
-        if swar::unordinary(swar::word(s, i), p, q) != 0 {
-            return false;
-        }
-        i += 8;
-    }
-    swar::unordinary(swar::last_word(s, 0, s.len()), p, q) == 0
-}
+use record_writer::words;
 
 // Whether `size` more bytes of a cell stay within the limits.
 fn fits(p: Place, size: usize) -> bool
@@ -47,7 +33,8 @@ pub fn step(d: Dialect, piece: &[u8], p: Place, bytes: &mut [u8], ends: &[usize]
         return None;
     };
     let q = cell_scanner::run_stop(d, c)?;
-    if !all_ordinary(piece, cell_lexer::quote_of(d), q) {
+    let quote = cell_lexer::quote_of(d);
+    if !words::all_words(piece, 0, piece.len(), |w| swar::unordinary(w, quote, q)) {
         return None;
     }
     let fill = cells::buffer_open(piece, bytes, p.fill);

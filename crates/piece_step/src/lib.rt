@@ -14,7 +14,7 @@ ghost use Rattle.model.specs.laws.Scans.{Buffered};
 ghost use Rattle.model.specs.laws.Places.{buffered_bytes, buffered_ends};
 ghost use Rattle.buffer.specs.Writes.{written};
 ghost use Rattle.piece_state.specs.CurrentRecord.{SpansIn, raw_cells_at};
-ghost use Rattle.piece_step.specs.Invariant.{start_from, StateInvariant, columns_with};
+ghost use Rattle.piece_step.specs.Invariant.{start_from, StateInvariant};
 ghost use Rattle.piece_step.specs.Steps.{Scratch, Lists, RecordCompleted, place_at_piece_end, RecordBuffered, step_after, Fitting, StepReady, StepInBounds, StepSound};
 
 use codes::{MAX_COLUMNS, MAX_FILE};
@@ -98,10 +98,7 @@ fn record_start(p: Place, n: usize, i: usize, start: usize) -> usize
     requires { n + start < 2 ^ 64 }
     ensures { result ≡ start_from p n i start }
 {
-    if start == i {
-        return p.start;
-    }
-    n + start
+    if start == i { p.start } else { n + start }
 }
 
 // ---- the piece ends
@@ -161,7 +158,7 @@ fn buffer_rest(
 
 // ---- a step
 
-// The result of a step.
+// The result of a step. It has four ways, and so it is no Option or Result.
 #[derive(Clone, Copy)]
 pub enum PieceStep {
     // A record was written, up to `end` of the output. The next step begins at `place`, which is index `at` of the piece.
@@ -182,15 +179,6 @@ pub struct CallResult {
     pub length: usize,
 }
 
-fn columns_with(p: Place, cells: usize) -> usize
-    ensures { result ≡ columns_with p cells }
-{
-    if p.records == 0 {
-        return cells;
-    }
-    p.columns
-}
-
 // The result of a step whose record of `total` cells is complete, by what piece_record returned.
 fn after_record(
     r: Result<usize, RecordError>,
@@ -209,17 +197,7 @@ fn after_record(
 {
     match r {
         Ok(end) => PieceStep::Next {
-            place: Place {
-                state,
-                offset: n + next,
-                start: n + next,
-                size: 0,
-                fill: 0,
-                cells: 0,
-                columns: columns_with(p, total),
-                records: p.records + 1,
-                written: p.written + (end - o),
-            },
+            place: p.after_record(total, end - o, state, n + next),
             at: next,
             end,
         },
@@ -232,7 +210,8 @@ fn after_record(
     }
 }
 
-// One step, from index i of the piece on; n bytes were consumed before the piece.
+// One step, from index i of the piece on; n bytes were consumed before the piece. `starts`, `stops` and `kinds` are scratch lists, which
+// each step overwrites. There is no struct of them, since the scanner takes three slices.
 pub fn step(
     d: Dialect,
     t: Dialect,

@@ -12,4 +12,4 @@ pub mod line;
 pub mod quotes;
 pub mod record;
 mod verbatim;
-mod words;
+pub mod words;

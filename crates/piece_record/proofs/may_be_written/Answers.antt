@@ -1,10 +1,7 @@
 -- The bytes up to the last end hold no ED, or each ED is checked.
 use native.Mathlib.Omega.{arith}
-use Prim.Native.Nat.{ℕ}
-use mathlib.Core.Path.{refl, sym, subst}
-use lib.ListN.{take, length-take}
-use Rattle.cell_decoder.specs.Followed.{EdFollowed}
-use Rattle.piece_record.proofs.BufferedCells.{end_inside, no_ed_followed}
+use lib.ListN.{length-take}
+use Rattle.piece_record.proofs.BufferedCells.{end_inside}
 use Rattle.piece_record.proofs.may_be_written.Goals as goal
 
 pub slice_bounds-holds_ed-end : goal.slice_bounds-holds_ed-end

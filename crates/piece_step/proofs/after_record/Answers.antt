@@ -9,20 +9,20 @@ use Rattle.piece_step.specs.declared.PieceStep.{PieceStep}
 use Rattle.piece_step.specs.Steps.{step_after, Fitting}
 use Rattle.piece_step.proofs.after_record.Goals as goal
 
-pub overflow_sub-result : goal.overflow_sub-result
-overflow_sub-result c =
+pub overflow_sub-end : goal.overflow_sub-end
+overflow_sub-end c =
     let f = subst (Fitting c.args.p c.args.o) c.in-Ok.is c.requires.fitting in
     let l = f.0 in omega arith
 
-pub overflow_add-result-in-Ok-3 : goal.overflow_add-result-in-Ok-3
-overflow_add-result-in-Ok-3 c =
+pub after_record-requires : goal.after_record-requires
+after_record-requires c =
     let f = subst (Fitting c.args.p c.args.o) c.in-Ok.is c.requires.fitting in
-    let l = f.1 in record { fits = omega arith }
+    let l = f.1 in (omega arith, omega arith)
 
 pub returns-in-Ok : goal.returns-in-Ok
 returns-in-Ok c =
     let a = c.args in
-    rw c.columns_with.ensures
+    rw c.after_record.ensures
     (sym (ap (step_after a.p a.n a.i a.start a.total a.state a.next a.o) c.in-Ok.is))
 
 pub returns-in-Err-Refused : goal.returns-in-Err-Refused

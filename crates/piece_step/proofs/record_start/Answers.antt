@@ -7,6 +7,6 @@ pub returns-then-start-i : goal.returns-then-start-i
 unfolding choose◌then◌else◌
 returns-then-start-i c = rw (eq-eqb _ _ c.if-start-i.true)
 
-pub returns : goal.returns
+pub returns-else-start-i : goal.returns-else-start-i
 unfolding choose◌then◌else◌
-returns c = rw (ne_eqb _ _ c.if-start-i.false)
+returns-else-start-i c = rw (ne_eqb _ _ c.if-start-i.false)

@@ -16,13 +16,20 @@ write_record-requires c =
     let m = c.if-cells-gt-MAX_COLUMNS.false in
     record { cells = c.requires.cells m; clean_in = c.requires.clean_in m; before_bound = (c.requires.written_bound.0, c.requires.written_bound.3) }
 
-pub overflow_sub-result : goal.overflow_sub-result
-overflow_sub-result c = (written_fits (put_to c.write_record.ensures c.in_ok-end.was)).0
+pub overflow_sub-end : goal.overflow_sub-end
+overflow_sub-end c = (written_fits (put_to c.write_record.ensures c.in_ok-end.was)).0
+
+pub after_record-requires : goal.after_record-requires
+after_record-requires c =
+    let fits = (written_fits (put_to c.write_record.ensures c.in_ok-end.was)).1 in
+    let few = c.requires.written_bound.1 in
+    (omega arith, omega arith)
 
 pub returns-in_err-end : goal.returns-in_err-end
 returns-in_err-end c = rw c.from_residual.ensures (not_found (put_nowhere c.write_record.ensures c.in_err-end.was))
 
 pub returns : goal.returns
 returns c =
-    written_place c.args.n c.args.next c.args.state c.args.cells c.requires.fact c.if-cells-gt-MAX_COLUMNS.false
-    (put_to c.write_record.ensures c.in_ok-end.was)
+    rw c.after_record.ensures
+    (written_place c.args.n c.args.next c.args.state c.args.cells c.requires.fact c.if-cells-gt-MAX_COLUMNS.false
+    (put_to c.write_record.ensures c.in_ok-end.was))
