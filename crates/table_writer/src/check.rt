@@ -60,16 +60,10 @@ fn is_value(k: Kind, s: &[u8]) -> bool
 fn is_cell(content: &[u8], from: usize, upto: usize, kind: u8) -> bool
     ensures { result ≡ is_there (table_cell content.now from upto kind) }
 {
-    let Ok(k) = Kind::try_from(kind) else {
-        return false;
-    };
-    if upto < from {
-        return false;
+    match Kind::try_from(kind) {
+        Ok(k) if from <= upto && upto <= content.len() => is_value(k, &content[from..upto]),
+        _ => false,
     }
-    if content.len() < upto {
-        return false;
-    }
-    is_value(k, &content[from..upto])
 }
 
 // ---- tables
@@ -79,12 +73,11 @@ fn are_cells(content: &[u8], starts: &[usize], ends: &[usize], kinds: &[u8]) -> 
     requires { (length starts.now ≡ length ends.now) × (length starts.now ≡ length kinds.now) }
     ensures { result ≡ is_there (table_cells content.now starts.now ends.now kinds.now) }
 {
-    let mut n = 0;
-    while n < starts.len() {
+    // By place: the C interface lends a cell's span and kind as three lists.
+    for n in 0..starts.len() {
         if !is_cell(content, starts[n], ends[n], kinds[n]) {
             return false;
         }
-        n += 1;
     }
     true
 }
@@ -96,10 +89,7 @@ fn is_product(cells: usize, columns: usize, records: usize) -> bool
     if columns == 0 {
         return cells == 0;
     }
-    if cells % columns != 0 {
-        return false;
-    }
-    cells / columns == records
+    cells % columns == 0 && cells / columns == records
 }
 
 // Whether the lists are a table. `records` counts the header.
@@ -113,17 +103,8 @@ pub fn is_table(
 ) -> bool
     ensures { result ≡ is_there (rows_in (given content.now starts.now ends.now kinds.now columns records)) }
 {
-    if starts.len() != ends.len() {
+    if starts.len() != ends.len() || starts.len() != kinds.len() || records == 0 {
         return false;
     }
-    if starts.len() != kinds.len() {
-        return false;
-    }
-    if records == 0 {
-        return false;
-    }
-    if !is_product(starts.len(), columns, records) {
-        return false;
-    }
-    are_cells(content, starts, ends, kinds)
+    is_product(starts.len(), columns, records) && are_cells(content, starts, ends, kinds)
 }

@@ -1,3 +1,6 @@
+use mathlib.Core.Path.{◌≡◌}
+use native.Mathlib.Omega.{arith}
+use lib.ListN.{length}
 use Rattle.table_writer.proofs.Contents.{passes_none, passes_ascii}
 use Rattle.table_writer.proofs.content.ascii_end.Goals as goal
 
@@ -11,4 +14,6 @@ pub loop-i-preserved : goal.loop-i-preserved
 loop-i-preserved c = passes_ascii c.loop-i.invariant c.loop-i-test.true c.if-s-i-gt127.false
 
 pub returns : goal.returns
-returns c = c.loop-i.invariant
+returns c =
+    let e : c.loop-i.i ≡ length c.args.s.now = omega (arith, c.loop-i.invariant.inside) in
+    rw e at c.loop-i.invariant
