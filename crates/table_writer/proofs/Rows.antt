@@ -224,6 +224,9 @@ unfolding table_text data_text
 rest_end t true = refl
 rest_end t false = refl
 
+pub part_text : (t : Dialect) (header : Bool) {r s : List Value} → r ≡ s → record_text (into t) header r ++ ending t ≡ record_text (into t) header s ++ ending t
+part_text t header e = ap (λ (r : List Value). record_text (into t) header r ++ ending t) e
+
 after_first : (n : ℕ) → eqb (n + 1) 0 ≡ false
 after_first n = ne_eqb (n + 1) 0 λ z. omega (arith, z)
 

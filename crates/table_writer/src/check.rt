@@ -20,23 +20,14 @@ use model::{Dialect, Kind};
 fn is_number_kind(k: Kind) -> bool
     ensures { result ≡ is_number k (Ok tt) }
 {
-    match k {
-        Kind::Number => true,
-        Kind::Text | Kind::True | Kind::False | Kind::Null => false,
-    }
+    matches!(k, Kind::Number)
 }
 
 // Whether bytes are a number as spelt.
 fn is_number(s: &[u8]) -> bool
     ensures { result ≡ is_number (kind_of Csvj s.now) (validate_cell Csvj s.now) }
 {
-    if !is_number_kind(cell::kind_of(Dialect::Csvj, s)) {
-        return false;
-    }
-    match validate::validate_cell(Dialect::Csvj, s) {
-        Ok(()) => true,
-        Err(_) => false,
-    }
+    is_number_kind(cell::kind_of(Dialect::Csvj, s)) && validate::validate_cell(Dialect::Csvj, s).is_ok()
 }
 
 fn is_empty(s: &[u8]) -> bool

@@ -13,7 +13,7 @@ use Rattle.cell_decoder.specs.declared.source.Source.TheVariants.{Contents}
 use Rattle.cell_decoder.specs.Sources.{cells_in}
 use Rattle.cell_decoder.proofs.CellsIn.{cells_length}
 use Rattle.table_writer.proofs.Parts.{part_cells, part_stands}
-use Rattle.table_writer.proofs.Rows.{row_at, in_starts, in_ends, in_kinds, writing_rows, row_room, row_written, rows_written}
+use Rattle.table_writer.proofs.Rows.{row_at, in_starts, in_ends, in_kinds, part_text, writing_rows, row_room, row_written, rows_written}
 use Rattle.table_writer.proofs.records.write_records.Goals as goal
 
 pub loop-n-init : goal.loop-n-init
@@ -41,25 +41,18 @@ slice_bounds-write_line-end-in-loop-n-2 c = in_kinds c.requires.cells c.loop-n.i
 
 pub write_line-o-requires : goal.write_line-o-requires
 write_line-o-requires c =
-    let row-text : (let a = c.args in let l = c.loop-n in record_text (into a.t) (eqb l.n 0) (cells_in Contents a.content.now (slice a.starts.now l.at (l.at + a.columns)) (slice a.ends.now l.at (l.at + a.columns)) (slice a.kinds.now l.at (l.at + a.columns))) ++ ending a.t ≡ record_text (into a.t) (eqb l.n 0) (row_at (cells_in Contents a.content.now a.starts.now a.ends.now a.kinds.now) a.columns l.at) ++ ending a.t) =
-    let a = c.args in
-    let l = c.loop-n in
-    ap (λ (r : List Value). record_text (into a.t) (eqb l.n 0) r ++ ending a.t)
-    (part_cells Contents a.content.now a.starts.now a.ends.now a.kinds.now l.at a.columns) in
     let a = c.args in
     let l = c.loop-n in
     let cells = part_stands Contents a.content.now a.starts.now a.ends.now a.kinds.now l.at a.columns c.requires.cells (in_starts c.requires.cells l.invariant.stands_at (omega arith)) in
-    let room = room_as (row-text) (row_room l.invariant (omega arith)) in
-    record { cells = cells; clean_record = λ e. impossible e; room = room }
+    let text = part_text a.t (eqb l.n 0) (part_cells Contents a.content.now a.starts.now a.ends.now a.kinds.now l.at a.columns) in
+    record { cells = cells; clean_record = λ e. impossible e; room = room_as text (row_room l.invariant (omega arith)) }
 
 pub loop-n-preserved : goal.loop-n-preserved
 loop-n-preserved c =
-    let row-text : (let a = c.args in let l = c.loop-n in record_text (into a.t) (eqb l.n 0) (cells_in Contents a.content.now (slice a.starts.now l.at (l.at + a.columns)) (slice a.ends.now l.at (l.at + a.columns)) (slice a.kinds.now l.at (l.at + a.columns))) ++ ending a.t ≡ record_text (into a.t) (eqb l.n 0) (row_at (cells_in Contents a.content.now a.starts.now a.ends.now a.kinds.now) a.columns l.at) ++ ending a.t) =
     let a = c.args in
     let l = c.loop-n in
-    ap (λ (r : List Value). record_text (into a.t) (eqb l.n 0) r ++ ending a.t)
-    (part_cells Contents a.content.now a.starts.now a.ends.now a.kinds.now l.at a.columns) in
-    row_written c.loop-n.invariant (omega arith) (emitted_as (sym (row-text)) c.write_line-o.ensures)
+    let text = part_text a.t (eqb l.n 0) (part_cells Contents a.content.now a.starts.now a.ends.now a.kinds.now l.at a.columns) in
+    row_written l.invariant (omega arith) (emitted_as (sym text) c.write_line-o.ensures)
 
 pub returns : goal.returns
 returns c = rows_written c.loop-n.invariant (omega arith)
