@@ -6,7 +6,6 @@
 ghost use Rattle.std.specs.Prelude.{◌≡◌, ◌*◌, eqb, length};
 ghost use Rattle.std.specs.Prelude.{Ok};
 ghost use Rattle.model.specs.declared.Dialect.TheVariants.{Csvj};
-ghost use Rattle.model.specs.rules.Base.{is_empty};
 ghost use Rattle.model.specs.rules.Decode.{kind_of, validate_cell};
 ghost use Rattle.model.specs.rules.Api.{is_number, is_value, table_cell, table_cells, rows_in};
 ghost use Rattle.table_writer.specs.TableParts.{given, is_there};
@@ -30,12 +29,6 @@ fn is_number(s: &[u8]) -> bool
     is_number_kind(cell::kind_of(Dialect::Csvj, s)) && validate::validate_cell(Dialect::Csvj, s).is_ok()
 }
 
-fn is_empty(s: &[u8]) -> bool
-    ensures { result ≡ is_empty s.now }
-{
-    s.len() == 0
-}
-
 // Whether bytes can be the content of this kind.
 fn is_value(k: Kind, s: &[u8]) -> bool
     ensures { result ≡ is_value k s.now }
@@ -43,7 +36,7 @@ fn is_value(k: Kind, s: &[u8]) -> bool
     match k {
         Kind::Text => crate::content::is_content(s),
         Kind::Number => is_number(s),
-        Kind::True | Kind::False | Kind::Null => is_empty(s),
+        Kind::True | Kind::False | Kind::Null => s.is_empty(),
     }
 }
 

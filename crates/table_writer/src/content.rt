@@ -91,6 +91,7 @@ fn may_end(p: ContentState) -> bool
 // ---- runs of ASCII
 
 // The end of the run of ASCII from `at`, between characters.
+#[tactic(auto, using(crate::proofs::Contents::passes_ascii))]
 fn ascii_end(s: &[u8], at: usize) -> usize
     requires { at ≤ length s.now }
     ensures { SameContentState (Some (gap false)) s.now at result }
