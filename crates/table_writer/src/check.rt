@@ -41,6 +41,7 @@ fn is_value(k: Kind, s: &[u8]) -> bool
 }
 
 // Whether the cell in this span, of the kind with this number, is valid.
+#[tactic(auto, using(crate::proofs::Tables::cell_unknown, crate::proofs::Tables::cell_known, crate::proofs::Tables::cell_backward, crate::proofs::Tables::cell_beyond))]
 fn is_cell(content: &[u8], from: usize, upto: usize, kind: u8) -> bool
     ensures { result ≡ is_there (table_cell content.now from upto kind) }
 {
@@ -53,6 +54,7 @@ fn is_cell(content: &[u8], from: usize, upto: usize, kind: u8) -> bool
 // ---- tables
 
 // Whether each cell of these lists is valid.
+#[tactic(auto, using(crate::proofs::Tables::cells_here, crate::proofs::Tables::cells_next, crate::proofs::Tables::cells_end))]
 fn are_cells(content: &[u8], starts: &[usize], ends: &[usize], kinds: &[u8]) -> bool
     requires { (length starts.now ≡ length ends.now) × (length starts.now ≡ length kinds.now) }
     ensures { result ≡ is_there (table_cells content.now starts.now ends.now kinds.now) }
@@ -67,6 +69,7 @@ fn are_cells(content: &[u8], starts: &[usize], ends: &[usize], kinds: &[u8]) -> 
 }
 
 // Whether `cells` is columns times records, a product that may overflow.
+#[tactic(auto, using(crate::proofs::Products::not_whole))]
 fn is_product(cells: usize, columns: usize, records: usize) -> bool
     ensures { result ≡ eqb cells (columns * records) }
 {
@@ -77,6 +80,7 @@ fn is_product(cells: usize, columns: usize, records: usize) -> bool
 }
 
 // Whether the lists are a table. `records` counts the header.
+#[tactic(auto, using(crate::proofs::Tables::no_ends, crate::proofs::Tables::no_kinds, crate::proofs::Tables::no_record, crate::proofs::Tables::no_product, crate::proofs::Tables::by_cells))]
 pub fn is_table(
     content: &[u8],
     starts: &[usize],
