@@ -26,7 +26,8 @@ fn is_number_kind(k: Kind) -> bool
 fn is_number(s: &[u8]) -> bool
     ensures { result ≡ is_number (kind_of Csvj s.now) (validate_cell Csvj s.now) }
 {
-    is_number_kind(cell::kind_of(Dialect::Csvj, s)) && validate::validate_cell(Dialect::Csvj, s).is_ok()
+    is_number_kind(cell::kind_of(Dialect::Csvj, s))
+        && validate::validate_cell(Dialect::Csvj, s).is_ok()
 }
 
 // Whether bytes can be the content of this kind.
