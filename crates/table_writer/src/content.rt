@@ -39,7 +39,7 @@ fn at_gap(high: bool, b: u8) -> Option<ContentState>
 }
 
 // Below A0 a character, A0 to AF a high surrogate, B0 to BF a low one, which may not follow a high one directly.
-#[tactic(auto, using(crate::proofs::Contents::ed_below, crate::proofs::Contents::ed_character, crate::proofs::Contents::ed_high, crate::proofs::Contents::ed_above))]
+#[tactic(auto, using(crate::proofs::Contents::ed_below, crate::proofs::Contents::ed_character, crate::proofs::Contents::ed_above))]
 fn after_ed(high: bool, b: u8) -> Option<ContentState>
     ensures { wide_of result ≡ wide_step (ed high) b }
 {

@@ -1,6 +1,6 @@
 -- `table_writer::content::in_lone` meets its contract, by its tests.
 use native.Mathlib.Omega.{arith}
-use borrow.Author.Tests.{le-leb, lt-leb}
+use borrow.Author.Tests.{le-leb}
 use Rattle.model.specs.rules.Base.{choose◌then◌else◌}
 use Rattle.model.specs.rules.Utf8.{wide_step}
 use Rattle.model.proofs.Tests.{tests}

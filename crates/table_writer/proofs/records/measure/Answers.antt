@@ -1,12 +1,7 @@
-use mathlib.Core.Path.{◌≡◌, sym, ap, ◌∙◌}
-use mathlib.Core.List.{List}
-use Prim.Native.Nat.{◌+◌, ◌≤◌}
+use mathlib.Core.Path.{sym, ap, ◌∙◌}
 use native.Mathlib.Omega.{arith}
-use lib.ListN.{length}
 use lib.Dec.{eqb}
-use Rattle.model.specs.rules.Text.{Value}
 use Rattle.cell_decoder.specs.declared.source.Source.TheVariants.{Contents}
-use Rattle.cell_decoder.specs.Sources.{cells_in}
 use Rattle.cell_decoder.proofs.CellsIn.{cells_length}
 use Rattle.table_writer.proofs.Parts.{part_cells, part_stands}
 use Rattle.table_writer.proofs.Rows.{in_starts, in_ends, in_kinds, measuring, measured_fault, measured_all, passed, part_check, fault_by, as_refused}

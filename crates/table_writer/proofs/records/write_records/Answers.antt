@@ -1,19 +1,12 @@
-use mathlib.Core.Path.{◌≡◌, sym, ap, ◌∙◌}
-use mathlib.Core.List.{List, ◌++◌}
-use Prim.Native.Nat.{◌+◌, ◌≤◌}
+use mathlib.Core.Path.{sym, ◌∙◌}
 use native.Mathlib.Omega.{arith}
-use lib.ListN.{length}
 use lib.Dec.{eqb}
-use Rattle.model.specs.rules.Dialect.{into}
-use Rattle.model.specs.rules.Text.{Value, record_text, ending}
-use Rattle.model.specs.rules.Api.{slice}
 use Rattle.model.proofs.Tests.{impossible}
 use Rattle.buffer.proofs.WriteProgress.{room_as, emitted_as}
 use Rattle.cell_decoder.specs.declared.source.Source.TheVariants.{Contents}
-use Rattle.cell_decoder.specs.Sources.{cells_in}
 use Rattle.cell_decoder.proofs.CellsIn.{cells_length}
 use Rattle.table_writer.proofs.Parts.{part_cells, part_stands}
-use Rattle.table_writer.proofs.Rows.{row_at, in_starts, in_ends, in_kinds, part_text, writing_rows, row_room, row_written, rows_written}
+use Rattle.table_writer.proofs.Rows.{in_starts, in_ends, in_kinds, part_text, writing_rows, row_room, row_written, rows_written}
 use Rattle.table_writer.proofs.records.write_records.Goals as goal
 
 pub loop-n-init : goal.loop-n-init
