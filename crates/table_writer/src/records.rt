@@ -83,6 +83,7 @@ pub fn measure(
     ensures { result ≡ measured_as (into t)
         (rows_given content.now starts.now ends.now kinds.now columns records) }
 {
+    // The place of the record's first cell. A record may have no columns, so the lists have no chunks.
     let mut at = 0;
     let mut size = 0;
     for n in 0..records {
@@ -128,6 +129,7 @@ pub fn write_records(
         (rows_given content.now starts.now ends.now kinds.now columns records))
         room.old }
 {
+    // The place of the record's first cell. A record may have no columns, so the lists have no chunks.
     let mut at = 0;
     let mut o = 0;
     for n in 0..records {
