@@ -1,6 +1,5 @@
 -- Answers with a text: a refusal leaves the room as it is, and an answer of a callee is that of its caller where the definitions agree.
 use Prim.Native.Nat.{ℕ, ◌<◌, ◌≤◌}
-use native.Mathlib.Omega.{arith}
 use mathlib.Core.Path.{◌≡◌, refl, sym, ap, ◌∙◌}
 use mathlib.Core.Bool.{false}
 use Rattle.std.specs.Prelude.{Option, None, Some}
@@ -9,19 +8,16 @@ use lib.ListN.{length}
 use borrow.Author.Tests.{lt-ltb, le-ltb}
 use Rattle.model.specs.declared.Dialect.{Dialect}
 use Rattle.model.specs.declared.Report.{Report}
-use Rattle.model.specs.declared.Target.{Target}
 use Rattle.model.specs.rules.Base.{Bytes, choose◌then◌else◌, over}
 use Rattle.model.specs.rules.Dialect.{dialect_of, into}
-use Rattle.model.specs.rules.Text.{Value, table_text}
+use Rattle.model.specs.rules.Text.{Value}
 use Rattle.model.specs.rules.Report.{accepted, refusal}
 use Rattle.model.specs.rules.Api.{Table, Written, unwritten, fitted, rows_in, rows_fault, written_rows, writer}
 use Rattle.model.proofs.Tests.{impossible}
 use Rattle.codes.specs.declared.TextAnswer.{TextAnswer}
 use Rattle.codes.specs.Named.{text_answer}
 use Rattle.table_writer.specs.TableParts.{is_there}
-use Rattle.std.specs.Prelude.{Ok, Err}
-use Rattle.table_writer.specs.Rows.{sum_by, measured_as}
-use Rattle.table_writer.specs.Answered.{table_written, written_in, writer_in}
+use Rattle.table_writer.specs.Answered.{written_in, writer_in}
 
 -- ---- answers
 
@@ -52,31 +48,6 @@ too_short room text h = rw (lt-ltb room (length text) h)
 pub long_enough : (room : ℕ) (text : Bytes) → length text ≤ room → fitted room text ≡ record { report = accepted; text = text }
 unfolding choose◌then◌else◌
 long_enough room text h = rw (le-ltb room (length text) h)
-
--- ---- all records
-
--- the records have no fault, and the length of their text is known
-record NoFault (t : Target) (rs : List (List Value)) (k : ℕ) (o : Option Report) : Type 0 where
-  pub faultless : o ≡ None
-  pub size : k ≡ length (table_text t rs)
-
-accepted_by : (t : Target) (rs : List (List Value)) (k : ℕ) (o : Option Report) → sum_by t rs o ≡ Ok k → NoFault t rs k o
-accepted_by t rs k None e = record { faultless = refl; size = cc }
-accepted_by t rs k (Some x) e = let z : ◌≡◌ {A = ℕ} 0 1 = cc in absurd (omega arith)
-
-refused_by : (t : Target) (rs : List (List Value)) (x : Report) (o : Option Report) → sum_by t rs o ≡ Err x → o ≡ Some x
-refused_by t rs x None e = let z : ◌≡◌ {A = ℕ} 0 1 = cc in absurd (omega arith)
-refused_by t rs x (Some y) e = cc
-
-module _ (t : Dialect) (rs : List (List Value)) where
-  pub accepted_size : (k : ℕ) → measured_as (into t) rs ≡ Ok k → k ≡ length (table_text (into t) rs)
-  accepted_size k e = (accepted_by (into t) rs k (rows_fault (into t) rs) e).size
-
-  pub accepted_written : (k room : ℕ) → measured_as (into t) rs ≡ Ok k → table_written t rs room ≡ fitted room (table_text (into t) rs)
-  accepted_written k room e = ap (written_rows (into t) room rs) (accepted_by (into t) rs k (rows_fault (into t) rs) e).faultless
-
-  pub refused_written : (x : Report) (room : ℕ) → measured_as (into t) rs ≡ Err x → table_written t rs room ≡ unwritten x
-  refused_written x room e = ap (written_rows (into t) room rs) (refused_by (into t) rs x (rows_fault (into t) rs) e)
 
 -- ---- the writer
 

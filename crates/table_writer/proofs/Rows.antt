@@ -27,7 +27,10 @@ use Rattle.model.specs.rules.Api.{rows_of, row_fault, or_next, rows_from, rows_f
 use Rattle.model.proofs.round_trip.TableText.{row_length}
 use Rattle.model.proofs.file_laws.CheckResults.{else_sound, target_sound, fault_sound}
 use Rattle.buffer.specs.Writes.{Room, WrittenAt}
-use Rattle.buffer.proofs.WriteProgress.{Emitting, emitting, room_next, put_next, put_whole, same_long, written_first}
+use Rattle.buffer.proofs.WriteProgress.{Emitting, emitting, room_next, put_next, put_whole, written_first}
+use Rattle.cell_decoder.specs.declared.source.Source.TheVariants.{Contents}
+use Rattle.cell_decoder.specs.Sources.{cells_in, Cells}
+use Rattle.cell_decoder.proofs.CellsIn.{cells_length}
 use Rattle.table_writer.specs.Rows.{header_if, row_check, sum_by, measured_as}
 
 -- ---- the records that are left
@@ -221,6 +224,9 @@ unfolding table_text data_text
 rest_end t true = refl
 rest_end t false = refl
 
+pub part_text : (t : Dialect) (header : Bool) {r s : List Value} → r ≡ s → record_text (into t) header r ++ ending t ≡ record_text (into t) header s ++ ending t
+part_text t header e = ap (λ (r : List Value). record_text (into t) header r ++ ending t) e
+
 after_first : (n : ℕ) → eqb (n + 1) 0 ≡ false
 after_first n = ne_eqb (n + 1) 0 λ z. omega (arith, z)
 
@@ -270,9 +276,6 @@ module _ {t : Dialect} {vs : List Value} {columns records : ℕ} {old room : Byt
       = ap (rest_text (into t) (eqb n 0)) (rows_end vs columns records n at h) ∙ rest_end (into t) (eqb n 0) in
       (put_whole (rw e at w.going)).text ∙ written_first old (table_text (into t) (rows_of records columns vs))
 
-  pub rows_long : length room ≡ length old
-  rows_long = same_long w.going
-
 -- ---- one record
 
 module _ (t : Dialect) (header : Bool) (written : ℕ) (r : List Value) where
@@ -283,3 +286,15 @@ module _ (t : Dialect) (header : Bool) (written : ℕ) (r : List Value) where
   pub header_sound : header_if t header r ≡ Ok tt → target_fault (into t) header written r ≡ row_check t header written r
   unfolding ◌or_else◌
   header_sound h = rw h
+
+-- ---- the lists of one record
+
+module _ {bs : Bytes} {ss es ks : List ℕ} {columns records n at : ℕ} (c : Cells Contents bs ss es ks) (s : Lies (cells_in Contents bs ss es ks) columns records n at) (h : n < records) where
+  pub in_starts : at + columns ≤ length ss
+  in_starts = omega (arith, row_inside s h, cells_length Contents bs ss es ks c.with_ends c.with_kinds)
+
+  pub in_ends : at + columns ≤ length es
+  in_ends = omega (arith, in_starts, c.with_ends)
+
+  pub in_kinds : at + columns ≤ length ks
+  in_kinds = omega (arith, in_starts, c.with_kinds)

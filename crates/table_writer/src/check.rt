@@ -6,7 +6,6 @@
 ghost use Rattle.std.specs.Prelude.{◌≡◌, ◌*◌, eqb, length};
 ghost use Rattle.std.specs.Prelude.{Ok};
 ghost use Rattle.model.specs.declared.Dialect.TheVariants.{Csvj};
-ghost use Rattle.model.specs.rules.Base.{is_empty};
 ghost use Rattle.model.specs.rules.Decode.{kind_of, validate_cell};
 ghost use Rattle.model.specs.rules.Api.{is_number, is_value, table_cell, table_cells, rows_in};
 ghost use Rattle.table_writer.specs.TableParts.{given, is_there};
@@ -20,29 +19,15 @@ use model::{Dialect, Kind};
 fn is_number_kind(k: Kind) -> bool
     ensures { result ≡ is_number k (Ok tt) }
 {
-    match k {
-        Kind::Number => true,
-        Kind::Text | Kind::True | Kind::False | Kind::Null => false,
-    }
+    matches!(k, Kind::Number)
 }
 
 // Whether bytes are a number as spelt.
 fn is_number(s: &[u8]) -> bool
     ensures { result ≡ is_number (kind_of Csvj s.now) (validate_cell Csvj s.now) }
 {
-    if !is_number_kind(cell::kind_of(Dialect::Csvj, s)) {
-        return false;
-    }
-    match validate::validate_cell(Dialect::Csvj, s) {
-        Ok(()) => true,
-        Err(_) => false,
-    }
-}
-
-fn is_empty(s: &[u8]) -> bool
-    ensures { result ≡ is_empty s.now }
-{
-    s.len() == 0
+    is_number_kind(cell::kind_of(Dialect::Csvj, s))
+        && validate::validate_cell(Dialect::Csvj, s).is_ok()
 }
 
 // Whether bytes can be the content of this kind.
@@ -52,57 +37,51 @@ fn is_value(k: Kind, s: &[u8]) -> bool
     match k {
         Kind::Text => crate::content::is_content(s),
         Kind::Number => is_number(s),
-        Kind::True | Kind::False | Kind::Null => is_empty(s),
+        Kind::True | Kind::False | Kind::Null => s.is_empty(),
     }
 }
 
 // Whether the cell in this span, of the kind with this number, is valid.
+#[tactic(auto, using(crate::proofs::Tables::cell_unknown, crate::proofs::Tables::cell_known, crate::proofs::Tables::cell_backward, crate::proofs::Tables::cell_beyond))]
 fn is_cell(content: &[u8], from: usize, upto: usize, kind: u8) -> bool
     ensures { result ≡ is_there (table_cell content.now from upto kind) }
 {
-    let Ok(k) = Kind::try_from(kind) else {
-        return false;
-    };
-    if upto < from {
-        return false;
+    match Kind::try_from(kind) {
+        Ok(k) if from <= upto && upto <= content.len() => is_value(k, &content[from..upto]),
+        _ => false,
     }
-    if content.len() < upto {
-        return false;
-    }
-    is_value(k, &content[from..upto])
 }
 
 // ---- tables
 
 // Whether each cell of these lists is valid.
+#[tactic(auto, using(crate::proofs::Tables::cells_here, crate::proofs::Tables::cells_next, crate::proofs::Tables::cells_end))]
 fn are_cells(content: &[u8], starts: &[usize], ends: &[usize], kinds: &[u8]) -> bool
     requires { (length starts.now ≡ length ends.now) × (length starts.now ≡ length kinds.now) }
     ensures { result ≡ is_there (table_cells content.now starts.now ends.now kinds.now) }
 {
-    let mut n = 0;
-    while n < starts.len() {
+    // By place: the C interface lends a cell's span and kind as three lists.
+    for n in 0..starts.len() {
         if !is_cell(content, starts[n], ends[n], kinds[n]) {
             return false;
         }
-        n += 1;
     }
     true
 }
 
 // Whether `cells` is columns times records, a product that may overflow.
+#[tactic(auto, using(crate::proofs::Products::not_whole))]
 fn is_product(cells: usize, columns: usize, records: usize) -> bool
     ensures { result ≡ eqb cells (columns * records) }
 {
     if columns == 0 {
         return cells == 0;
     }
-    if cells % columns != 0 {
-        return false;
-    }
-    cells / columns == records
+    cells % columns == 0 && cells / columns == records
 }
 
 // Whether the lists are a table. `records` counts the header.
+#[tactic(auto, using(crate::proofs::Tables::no_ends, crate::proofs::Tables::no_kinds, crate::proofs::Tables::no_record, crate::proofs::Tables::no_product, crate::proofs::Tables::by_cells))]
 pub fn is_table(
     content: &[u8],
     starts: &[usize],
@@ -113,17 +92,8 @@ pub fn is_table(
 ) -> bool
     ensures { result ≡ is_there (rows_in (given content.now starts.now ends.now kinds.now columns records)) }
 {
-    if starts.len() != ends.len() {
+    if starts.len() != ends.len() || starts.len() != kinds.len() || records == 0 {
         return false;
     }
-    if starts.len() != kinds.len() {
-        return false;
-    }
-    if records == 0 {
-        return false;
-    }
-    if !is_product(starts.len(), columns, records) {
-        return false;
-    }
-    are_cells(content, starts, ends, kinds)
+    is_product(starts.len(), columns, records) && are_cells(content, starts, ends, kinds)
 }

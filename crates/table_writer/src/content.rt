@@ -39,37 +39,25 @@ fn at_gap(high: bool, b: u8) -> Option<ContentState>
 }
 
 // Below A0 a character, A0 to AF a high surrogate, B0 to BF a low one, which may not follow a high one directly.
+#[tactic(auto, using(crate::proofs::Contents::ed_below, crate::proofs::Contents::ed_character, crate::proofs::Contents::ed_above))]
 fn after_ed(high: bool, b: u8) -> Option<ContentState>
     ensures { wide_of result ≡ wide_step (ed high) b }
 {
-    if b < 0x80 {
-        return None;
+    match b {
+        0x80..=0x9F => Some(ContentState::InCharacter(Inner::Last)),
+        0xA0..=0xAF => Some(ContentState::InLone { high: true }),
+        0xB0..=0xBF if !high => Some(ContentState::InLone { high: false }),
+        _ => None,
     }
-    if b < 0xA0 {
-        return Some(ContentState::InCharacter(Inner::Last));
-    }
-    if b < 0xB0 {
-        return Some(ContentState::InLone { high: true });
-    }
-    if 0xBF < b {
-        return None;
-    }
-    if high {
-        return None;
-    }
-    Some(ContentState::InLone { high: false })
 }
 
 fn in_lone(high: bool, b: u8) -> Option<ContentState>
     ensures { wide_of result ≡ wide_step (lone high) b }
 {
-    if b < 0x80 {
-        return None;
+    match b {
+        0x80..=0xBF => Some(ContentState::Gap { high }),
+        _ => None,
     }
-    if 0xBF < b {
-        return None;
-    }
-    Some(ContentState::Gap { high })
 }
 
 fn in_character(i: Inner, b: u8) -> Option<ContentState>
@@ -104,18 +92,17 @@ fn may_end(p: ContentState) -> bool
 // ---- runs of ASCII
 
 // The end of the run of ASCII from `at`, between characters.
+#[tactic(auto, using(crate::proofs::Contents::passes_ascii))]
 fn ascii_end(s: &[u8], at: usize) -> usize
     requires { at ≤ length s.now }
     ensures { SameContentState (Some (gap false)) s.now at result }
 {
-    let mut i = at;
-    while i < s.len() {
+    for i in at..s.len() {
         if 0x7F < s[i] {
             return i;
         }
-        i += 1;
     }
-    i
+    s.len()
 }
 
 // The same in any state. Directly after a high surrogate the next byte is taken by a step.
@@ -138,6 +125,7 @@ pub fn is_content(s: &[u8]) -> bool
 {
     let mut p = ContentState::Gap { high: false };
     let mut i = ascii_end(s, 0);
+    // By place: a run is passed over at once.
     while i < s.len() {
         let Some(q) = step(p, s[i]) else {
             return false;

@@ -2,6 +2,8 @@
 // that leaves the room unchanged. The lists are checked first (check.rt), then every record is checked and measured, and the text is
 // written only where it has room (records.rt).
 //
+// The lists of cells are parameters one by one: the C interface lends a cell's span and kind as three lists.
+//
 // The definition is `writer` of model's specs/rules/Api.antt. proofs/Answers.antt has the laws that a new answer would change.
 #![tactic(auto)]
 

@@ -83,10 +83,10 @@ pub fn measure(
     ensures { result ≡ measured_as (into t)
         (rows_given content.now starts.now ends.now kinds.now columns records) }
 {
-    let mut n = 0;
+    // The place of the record's first cell. A record may have no columns, so the lists have no chunks.
     let mut at = 0;
     let mut size = 0;
-    while n < records {
+    for n in 0..records {
         let next = at + columns;
         match check_record(
             t,
@@ -104,7 +104,6 @@ pub fn measure(
                 return Err(codes::record_report(e, n + 1, 0));
             }
         }
-        n += 1;
         at = next;
     }
     Ok(size)
@@ -130,10 +129,10 @@ pub fn write_records(
         (rows_given content.now starts.now ends.now kinds.now columns records))
         room.old }
 {
-    let mut n = 0;
+    // The place of the record's first cell. A record may have no columns, so the lists have no chunks.
     let mut at = 0;
     let mut o = 0;
-    while n < records {
+    for n in 0..records {
         let next = at + columns;
         o = line::write_line(
             Source::Contents,
@@ -147,7 +146,6 @@ pub fn write_records(
             room,
             o,
         );
-        n += 1;
         at = next;
     }
 }

@@ -1,14 +1,9 @@
 -- The invariant: the bytes up to i leave the state unchanged.
 use mathlib.Core.Bool.{false}
 use Rattle.std.specs.Prelude.{Some}
-use Prim.Native.Nat.{◌-◌}
-use lib.ListN.{length}
 use Rattle.model.specs.rules.Utf8.{gap}
 use Rattle.table_writer.specs.Content.{SameContentState}
 use Rattle.table_writer.proofs.content.ascii_end.Given as goal
 
 abbrev pub invariant-loop-i : goal.invariant-loop-i
 invariant-loop-i l = SameContentState (Some (gap false)) l.s l.at l.i
-
-abbrev pub decreases-loop-i : goal.decreases-loop-i
-decreases-loop-i l = length l.s - l.i

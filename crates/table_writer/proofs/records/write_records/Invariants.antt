@@ -1,5 +1,4 @@
 -- The invariant: the room holds the text of the first n records, and has place for that of the rest.
-use Prim.Native.Nat.{◌-◌}
 use Rattle.cell_decoder.specs.declared.source.Source.TheVariants.{Contents}
 use Rattle.cell_decoder.specs.Sources.{cells_in}
 use Rattle.table_writer.proofs.Rows.{WritingRows}
@@ -7,6 +6,3 @@ use Rattle.table_writer.proofs.records.write_records.Given as goal
 
 abbrev pub invariant-loop-n : goal.invariant-loop-n
 invariant-loop-n l = WritingRows l.t (cells_in Contents l.content l.starts l.ends l.kinds) l.columns l.records l.initial.room l.room l.n l.at l.o
-
-abbrev pub decreases-loop-n : goal.decreases-loop-n
-decreases-loop-n l = l.records - l.n
