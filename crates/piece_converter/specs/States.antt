@@ -47,3 +47,9 @@ abbrev pub numbers_of : Place → (ended : ℕ) → Report → List ℕ
 numbers_of p ended e =
     state_number p.state ∷ p.offset ∷ p.start ∷ p.size ∷ p.fill ∷ p.cells ∷ p.columns ∷ p.records ∷ p.written ∷ ended
     ∷ e.number ∷ e.record_number ∷ e.column ∷ e.offset ∷ []
+
+-- the numbers, by the fields (§15.2)
+abbrev pub numbers_by_field : Converter → List ℕ
+numbers_by_field s =
+    s.state ∷ s.offset ∷ s.start ∷ s.size ∷ s.fill ∷ s.cells ∷ s.columns ∷ s.records ∷ s.written ∷ s.ended
+    ∷ s.fault.number ∷ s.fault.record_number ∷ s.fault.column ∷ s.fault.offset ∷ []

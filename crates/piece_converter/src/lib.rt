@@ -8,7 +8,8 @@
 
 ghost use Rattle.std.specs.Prelude.{◌≡◌, length};
 ghost use Rattle.model.specs.rules.Ledger.{piece, finish};
-ghost use Rattle.piece_converter.specs.Contract.{new_converter, CallContract};
+ghost use Rattle.piece_converter.specs.States.{numbers_by_field};
+ghost use Rattle.piece_converter.specs.Contract.{converter_of, new_converter, CallContract};
 
 use codes::TextAnswer;
 use model::Report;
@@ -86,14 +87,12 @@ impl Converter {
         }
     }
 
-    // The next bytes of the file.
-    pub fn piece(self, input: &[u8], out: &mut [u8]) -> PieceAnswer
-        ensures { CallContract self (piece input.now (length out.old)) out.old result.answer result.next out.new }
+    // The numbers in the order of the fields, as `lent` takes them.
+    #[inline(always)]
+    fn numbers(&self) -> [usize; 14]
+        ensures { result ≡ numbers_by_field self.now }
     {
-        let source = self.source;
-        let target = self.target;
-        let before = self.fault;
-        let mut numbers = [
+        [
             self.state,
             self.offset,
             self.start,
@@ -104,52 +103,54 @@ impl Converter {
             self.records,
             self.written,
             self.ended,
-            before.number,
-            before.record_number,
-            before.column,
-            before.offset,
-        ];
-        let mut ends = self.ends;
-        let mut name_ends = self.name_ends;
-        let mut bytes = self.bytes;
-        let mut names = self.names;
+            self.fault.number,
+            self.fault.record_number,
+            self.fault.column,
+            self.fault.offset,
+        ]
+    }
+
+    // The same state with these numbers.
+    #[inline(always)]
+    fn with(self, numbers: [usize; 14]) -> Converter
+        ensures { result ≡ converter_of self.source self.target numbers self.ends self.name_ends self.bytes self.names }
+    {
+        Converter {
+            state: numbers[state::STATE],
+            offset: numbers[state::OFFSET],
+            start: numbers[state::START],
+            size: numbers[state::SIZE],
+            fill: numbers[state::FILL],
+            cells: numbers[state::CELLS],
+            columns: numbers[state::COLUMNS],
+            records: numbers[state::RECORDS],
+            written: numbers[state::WRITTEN],
+            ended: numbers[state::ENDED],
+            fault: state::stored_fault(numbers),
+            ..self
+        }
+    }
+
+    // The next bytes of the file.
+    pub fn piece(self, input: &[u8], out: &mut [u8]) -> PieceAnswer
+        ensures { CallContract self (piece input.now (length out.old)) out.old result.answer result.next out.new }
+    {
+        let mut numbers = self.numbers();
+        let mut next = self;
         let answer = lent::piece(
-            source,
-            target,
+            self.source,
+            self.target,
             &mut numbers,
-            &mut ends,
-            &mut name_ends,
-            &mut bytes,
-            &mut names,
+            &mut next.ends,
+            &mut next.name_ends,
+            &mut next.bytes,
+            &mut next.names,
             input,
             out,
         );
         PieceAnswer {
             answer,
-            next: Converter {
-                source,
-                target,
-                state: numbers[state::STATE],
-                offset: numbers[state::OFFSET],
-                start: numbers[state::START],
-                size: numbers[state::SIZE],
-                fill: numbers[state::FILL],
-                cells: numbers[state::CELLS],
-                columns: numbers[state::COLUMNS],
-                records: numbers[state::RECORDS],
-                written: numbers[state::WRITTEN],
-                ended: numbers[state::ENDED],
-                fault: Report {
-                    number: numbers[state::FAULT],
-                    record_number: numbers[state::FAULT + 1],
-                    column: numbers[state::FAULT + 2],
-                    offset: numbers[state::FAULT + 3],
-                },
-                ends,
-                name_ends,
-                bytes,
-                names,
-            },
+            next: next.with(numbers),
         }
     }
 
@@ -157,65 +158,21 @@ impl Converter {
     pub fn end(self, out: &mut [u8]) -> PieceAnswer
         ensures { CallContract self (finish (length out.old)) out.old result.answer result.next out.new }
     {
-        let source = self.source;
-        let target = self.target;
-        let before = self.fault;
-        let mut numbers = [
-            self.state,
-            self.offset,
-            self.start,
-            self.size,
-            self.fill,
-            self.cells,
-            self.columns,
-            self.records,
-            self.written,
-            self.ended,
-            before.number,
-            before.record_number,
-            before.column,
-            before.offset,
-        ];
-        let mut ends = self.ends;
-        let mut name_ends = self.name_ends;
-        let mut bytes = self.bytes;
-        let mut names = self.names;
+        let mut numbers = self.numbers();
+        let mut next = self;
         let answer = lent::end(
-            source,
-            target,
+            self.source,
+            self.target,
             &mut numbers,
-            &mut ends,
-            &mut name_ends,
-            &mut bytes,
-            &mut names,
+            &mut next.ends,
+            &mut next.name_ends,
+            &mut next.bytes,
+            &mut next.names,
             out,
         );
         PieceAnswer {
             answer,
-            next: Converter {
-                source,
-                target,
-                state: numbers[state::STATE],
-                offset: numbers[state::OFFSET],
-                start: numbers[state::START],
-                size: numbers[state::SIZE],
-                fill: numbers[state::FILL],
-                cells: numbers[state::CELLS],
-                columns: numbers[state::COLUMNS],
-                records: numbers[state::RECORDS],
-                written: numbers[state::WRITTEN],
-                ended: numbers[state::ENDED],
-                fault: Report {
-                    number: numbers[state::FAULT],
-                    record_number: numbers[state::FAULT + 1],
-                    column: numbers[state::FAULT + 2],
-                    offset: numbers[state::FAULT + 3],
-                },
-                ends,
-                name_ends,
-                bytes,
-                names,
-            },
+            next: next.with(numbers),
         }
     }
 }

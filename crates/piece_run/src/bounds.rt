@@ -14,31 +14,17 @@ fn is_buffered_in_bounds(p: Place, ends: &[usize]) -> bool
     ensures in_bounds { result ≡ true → InBounds p ends.now }
     ensures value { InBounds p ends.now → result ≡ true }
 {
-    if MAX_RECORD < p.size {
+    if MAX_RECORD < p.size
+        || p.size < p.fill
+        || MAX_FILE < p.offset
+        || MAX_FILE < p.written
+        || p.offset < p.records
+        || p.offset < p.cells
+    {
         return false;
     }
-    if p.size < p.fill {
-        return false;
-    }
-    if MAX_FILE < p.offset {
-        return false;
-    }
-    if MAX_FILE < p.written {
-        return false;
-    }
-    if p.offset < p.records {
-        return false;
-    }
-    if p.offset < p.cells {
-        return false;
-    }
-    if !checks::is_buffered_in_record(p) {
-        return false;
-    }
-    if MAX_COLUMNS < p.cells {
-        return true;
-    }
-    checks::is_in_order(ends, p.cells, p.fill)
+    checks::is_buffered_in_record(p)
+        && (MAX_COLUMNS < p.cells || checks::is_in_order(ends, p.cells, p.fill))
 }
 
 // The same for the current ends: those of the header's names, or of another record's cells.

@@ -8,12 +8,6 @@ use Rattle.piece_run.proofs.EndLaws.{cut_reads, cut_reports, none_reads, none_re
 use Rattle.piece_run.proofs.EndCases.{finish_fault, finish_clean}
 use Rattle.piece_run.proofs.ending.end_record.Goals as goal
 
-pub fault_at-requires : goal.fault_at-requires
-fault_at-requires c = let records = c.requires.bounds.records in let offset = c.requires.bounds.offset in omega arith
-
-pub fault_at-requires-then-p-eq0 : goal.fault_at-requires-then-p-eq0
-fault_at-requires-then-p-eq0 c = let records = c.requires.bounds.records in let offset = c.requires.bounds.offset in omega arith
-
 pub returns-then-p-eq0 : goal.returns-then-p-eq0
 returns-then-p-eq0 c =
     let a = c.args in
@@ -26,12 +20,6 @@ returns-then-p-eq0 c =
           none;
       length_in_bounds = omega arith;
     }
-
-pub last_record-requires : goal.last_record-requires
-last_record-requires c = record {
-  step_ready = c.requires;
-  state_value = sym c.file_end.ensures ∙ c.in-Final.is;
-}
 
 pub returns-in-Cut : goal.returns-in-Cut
 returns-in-Cut c =
@@ -54,6 +42,3 @@ returns-else-p-eq0 c =
           (clean_reads a.d (into a.t) a.p done k b.hold f (omega arith)) refl c.call_report.ensures refl;
       length_in_bounds = omega arith;
     }
-
-pub returns-in-Final : goal.returns-in-Final
-returns-in-Final c = c.last_record.ensures

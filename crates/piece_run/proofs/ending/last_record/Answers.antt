@@ -18,9 +18,6 @@ use Rattle.piece_run.proofs.ending.last_record.Goals as goal
 abbrev in_error : RecordError → RecordResult
 in_error e = Err e
 
-pub fault_at-requires : goal.fault_at-requires
-fault_at-requires c = let records = c.requires.step_ready.bounds.records in let offset = c.requires.step_ready.bounds.offset in omega arith
-
 pub returns-then-last-ge-MAX_COLUMNS : goal.returns-then-last-ge-MAX_COLUMNS
 returns-then-last-ge-MAX_COLUMNS c =
     let a = c.args in
@@ -29,22 +26,6 @@ returns-then-last-ge-MAX_COLUMNS c =
           c.if-last-ge-MAX_COLUMNS.true _ (ap (λ (x : CallResult). x.place) c.fault_at.ensures) (ap (λ (x : CallResult). x.report) c.fault_at.ensures) none;
       length_in_bounds = omega arith;
     }
-
-pub bounds-ends-last : goal.bounds-ends-last
-bounds-ends-last c = let long : length c.args.ends.now ≡ 64 = c.requires.step_ready.long_ends in omega arith
-
-pub slice_bounds-complete-end : goal.slice_bounds-complete-end
-slice_bounds-complete-end c =
-    let long : length c.args.ends.now ≡ 64 = c.requires.step_ready.long_ends in
-    let few : c.args.p.cells < 64 = c.if-last-ge-MAX_COLUMNS.false in
-    omega (arith, length-set c.args.ends.now c.args.p.cells c.args.p.fill)
-
-pub slice_bounds-complete-end-2 : goal.slice_bounds-complete-end-2
-slice_bounds-complete-end-2 c =
-    let a = c.args in
-    let long : length a.ends.now ≡ 64 = c.requires.step_ready.long_ends in
-    let few : a.p.cells < 64 = c.if-last-ge-MAX_COLUMNS.false in
-    omega (arith, length-set a.ends.now a.p.cells a.p.fill, length-take (a.p.cells + 1) (set a.ends.now a.p.cells a.p.fill))
 
 pub complete-requires : goal.complete-requires
 complete-requires c =
@@ -60,9 +41,6 @@ complete-requires c =
       ends_len_bound = (omega arith, omega arith, c.requires.step_ready.bounds.written, omega arith);
       starts_len = (search rules, search rules);
     }
-
-pub fault_at-requires-in-Err-Refused : goal.fault_at-requires-in-Err-Refused
-fault_at-requires-in-Err-Refused c = let records = c.requires.step_ready.bounds.records in let offset = c.requires.step_ready.bounds.offset in omega arith
 
 pub returns-in-Ok : goal.returns-in-Ok
 returns-in-Ok c =

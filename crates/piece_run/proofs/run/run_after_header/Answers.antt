@@ -12,12 +12,6 @@ use Rattle.piece_run.specs.Runs.{StepsSound}
 use Rattle.piece_run.proofs.PieceRun.{cell_buffered, cell_nothing, still_proceeds}
 use Rattle.piece_run.proofs.run.run_after_header.Goals as goal
 
-pub step-requires : goal.step-requires
-step-requires c = let r = c.requires in record {
-  in_bounds = r.bounds;
-  bytes_len = (r.long_bytes, r.long_ends);
-}
-
 pub returns-in-Some : goal.returns-in-Some
 returns-in-Some c =
     let a = c.args in
