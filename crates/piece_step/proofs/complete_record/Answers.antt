@@ -1,13 +1,13 @@
 -- `piece_step::complete_record` meets its contract: the cells are appended, the ends still ascend, and the record is checked from the
 -- buffer.
-use mathlib.Core.Path.{◌≡◌, refl, sym, ap, ◌∙◌}
+use mathlib.Core.Path.{◌≡◌, ap, ◌∙◌}
 use Prim.Native.Nat.{◌+◌, ◌≤◌}
 use native.Mathlib.Omega.{arith}
 use lib.ListN.{length}
 use Rattle.model.specs.laws.Places.{buffered_bytes}
 use Rattle.buffer.proofs.WriteProgress.{length_written}
 use Rattle.piece_state.specs.CurrentRecord.{raw_cells_at}
-use Rattle.piece_step.specs.Steps.{too_many, from_buffered}
+use Rattle.piece_step.specs.Steps.{from_buffered}
 use Rattle.piece_step.proofs.BufferedParts.{order_then, order_more, ends_long, listed}
 use Rattle.piece_step.proofs.complete_record.Goals as goal
 

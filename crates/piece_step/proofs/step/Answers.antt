@@ -8,7 +8,7 @@ use Rattle.model.specs.rules.Report.{MAXCOLUMNS}
 use Rattle.piece_step.specs.Steps.{StepInBounds, stopped_bounds, StepSound}
 use Rattle.piece_step.proofs.ScanAnswers.{completed_as, pending_as, failed_as}
 use Rattle.piece_step.proofs.Steps.{here, lists_done, cells_shown, next_file, cells_few, start_in, fits_done, bounds_done, turns_done, lists_pended}
-use Rattle.piece_step.proofs.Steps.{cells_yet, room_open, end_file, start_yet, opened_yet, bounds_pended, turns_pended_on, failed_file, turns_failed}
+use Rattle.piece_step.proofs.Steps.{cells_yet, room_open, end_file, start_yet, opened_yet, bounds_pended, turns_pended_on, turns_failed}
 use Rattle.piece_step.proofs.step.Goals as goal
 
 pub scan-requires : goal.scan-requires

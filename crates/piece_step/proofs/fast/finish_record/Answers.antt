@@ -1,9 +1,6 @@
 -- `piece_step::fast::finish_record` meets its contract: the place after the record counts its text, which fits into the file.
-use Prim.Native.Nat.{◌≤◌}
 use native.Mathlib.Omega.{arith}
-use mathlib.Core.Path.{◌≡◌, refl, sym}
-use lib.ListN.{length}
-use lib.Seq.{length-take-le}
+use mathlib.Core.Path.{refl}
 use Rattle.piece_step.specs.FastSteps.{not_found}
 use Rattle.piece_step.proofs.FastText.{put_to, put_nowhere, written_fits, written_place}
 use Rattle.piece_step.proofs.fast.finish_record.Goals as goal

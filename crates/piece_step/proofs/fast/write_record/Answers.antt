@@ -2,13 +2,10 @@
 use Prim.Native.Nat.{ℕ, ◌+◌, ◌≤◌}
 use native.Mathlib.Omega.{arith}
 use mathlib.Core.Path.{◌≡◌, refl, sym, ◌∙◌}
-use mathlib.Core.Bool.{true, false}
-use mathlib.Core.List.{◌++◌}
+use mathlib.Core.Bool.{true}
 use lib.ListN.{length}
 use Rattle.model.specs.rules.Base.{choose◌then◌else◌, Bytes}
-use Rattle.model.specs.rules.Dialect.{into}
 use Rattle.model.proofs.Tests.{impossible}
-use Rattle.model.specs.rules.Text.{record_text, ending}
 use Rattle.buffer.specs.Writes.{WrittenAt, written}
 use Rattle.cell_decoder.specs.declared.source.Source.TheVariants.{File}
 use Rattle.cell_decoder.specs.Sources.{cells_in}
