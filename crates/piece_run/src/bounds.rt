@@ -14,6 +14,7 @@ fn is_buffered_in_bounds(p: Place, ends: &[usize]) -> bool
     ensures in_bounds { result ≡ true → InBounds p ends.now }
     ensures value { InBounds p ends.now → result ≡ true }
 {
+    // Early, and no part of the chain below: in one chain each bound would be proved through a nest of cases.
     if MAX_RECORD < p.size
         || p.size < p.fill
         || MAX_FILE < p.offset
@@ -33,6 +34,7 @@ pub fn is_in_bounds(p: Place, name_ends: &[usize], ends: &[usize]) -> bool
     ensures in_bounds { result ≡ true → InBounds p (current_in p name_ends.now ends.now) }
     ensures value { InBounds p (current_in p name_ends.now ends.now) → result ≡ true }
 {
+    // Two calls, and no choice of a slice: what a chosen slice holds would be proved by cases for each clause.
     if p.records == 0 {
         return is_buffered_in_bounds(p, name_ends);
     }

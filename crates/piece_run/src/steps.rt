@@ -12,7 +12,7 @@ use piece_state::place::Place;
 use piece_step::fast::Next;
 use piece_step::{CallResult, PieceStep};
 
-// The result of a call, as one value.
+// A call's result in one line, for each way that a run ends. ending.rt writes the fields out: its proofs then need no step for each field.
 pub fn call_result(place: Place, report: Report, length: usize) -> CallResult
     ensures { result ≡ record { place = place; report = report; length = length } }
 {

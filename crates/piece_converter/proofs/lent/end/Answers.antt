@@ -13,7 +13,7 @@ use Rattle.model.specs.laws.Scans.{Buffered}
 use Rattle.std.specs.Prelude.{Ok}
 use Rattle.piece_state.specs.declared.place.Place.{Place}
 use Rattle.piece_step.specs.Calls.{Named, Begun, Finished}
-use Rattle.piece_converter.specs.States.{place_of, numbers_of}
+use Rattle.piece_converter.specs.States.{place_of}
 use Rattle.piece_converter.specs.Contract.{converter_of}
 use Rattle.piece_converter.proofs.Contract.{check_of, end_called}
 use Rattle.piece_converter.proofs.lent.end.Goals as goal

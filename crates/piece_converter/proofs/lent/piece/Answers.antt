@@ -15,7 +15,7 @@ use Rattle.std.specs.Prelude.{Ok}
 use Rattle.piece_state.specs.declared.place.Place.{Place}
 use Rattle.piece_step.specs.Calls.{Begun}
 use Rattle.piece_run.specs.PieceRun.{PieceRunSound}
-use Rattle.piece_converter.specs.States.{place_of, numbers_of}
+use Rattle.piece_converter.specs.States.{place_of}
 use Rattle.piece_converter.specs.Contract.{converter_of}
 use Rattle.piece_converter.proofs.Contract.{check_of, piece_called}
 use Rattle.piece_converter.proofs.lent.piece.Goals as goal

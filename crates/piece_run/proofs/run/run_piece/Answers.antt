@@ -2,7 +2,7 @@
 -- and do not change the names.
 use Prim.Native.Nat.{◌<◌}
 use native.Mathlib.Omega.{arith}
-use mathlib.Core.Path.{◌≡◌, refl, sym, ap, subst, ◌∙◌}
+use mathlib.Core.Path.{◌≡◌, refl, sym, ap, subst}
 use borrow.Author.Rules.{rules}
 use Rattle.model.specs.rules.Dialect.{into}
 use Rattle.piece_step.specs.declared.CallResult.{CallResult}
