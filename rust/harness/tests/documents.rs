@@ -361,7 +361,7 @@ fn declares(source: &str, name: &str) -> bool {
             .split_whitespace()
             .skip_while(|word| words.contains(word));
         let first = rest.next().unwrap_or_default();
-        let declared = first.split(['(', ':']).next().unwrap_or_default();
+        let declared = first.split(['(', ':', '<']).next().unwrap_or_default();
         let named = line.trim_start().starts_with(|c: char| c.is_alphabetic());
         named
             && declared == name

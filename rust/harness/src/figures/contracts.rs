@@ -112,7 +112,7 @@ fn public_function(line: &str) -> Option<&str> {
         .trim_start_matches("extern \"C\" ");
     Some(
         rest.strip_prefix("fn ")?
-            .split('(')
+            .split(['(', '<'])
             .next()
             .unwrap_or_default(),
     )
