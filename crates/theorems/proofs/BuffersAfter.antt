@@ -6,15 +6,15 @@ use mathlib.Core.Logic.{◌≢◌}
 use mathlib.Core.Bool.{Bool, true, false}
 use Rattle.std.specs.Prelude.{Option, None, Some, Ok, Err, min}
 use mathlib.Core.List.{List, [], ◌∷◌, ◌++◌, map}
-use lib.Dec.{leb, ltb}
+use lib.Dec.{ltb}
 use lib.ListN.{length, drop, length-append, length-drop, length-map}
 use lib.Seq.{drop_at}
-use borrow.Author.Tests.{ltb-false, leb-true, leb-false}
+use borrow.Author.Tests.{ltb-false}
 use Rattle.model.specs.declared.Report.{Report}
 use Rattle.model.specs.declared.Dialect.{Dialect}
 use Rattle.model.specs.declared.Target.{Target}
 use Rattle.model.specs.rules.Types.{CellCheck}
-use Rattle.model.specs.rules.Base.{Bytes, choose◌then◌else◌, over, concat}
+use Rattle.model.specs.rules.Base.{Bytes, over, concat}
 use Rattle.model.specs.rules.Dialect.{dialect_of, into}
 use Rattle.model.specs.rules.Decode.{kind_number, content_of, validate_cell}
 use Rattle.model.specs.rules.Text.{Value, table_text}
@@ -72,10 +72,10 @@ reader_fits n file room = by_dialect (dialect_of n)
     by_dialect (Some d) = by_end (read_file d None file)
 
 pub least_first : (a b : ℕ) → min a b ≤ a
-least_first a b = split (λ (n : ℕ). n ≤ a) (leb a b) (λ _. omega arith) λ e. omega (arith, leb-false a b e)
+least_first a b = omega arith
 
 pub least_second : (a b : ℕ) → min a b ≤ b
-least_second a b = split (λ (n : ℕ). n ≤ b) (leb a b) (λ e. leb-true a b e) λ _. omega arith
+least_second a b = omega arith
 
 -- a list of numbers, one for each cell
 mapped_leaves :

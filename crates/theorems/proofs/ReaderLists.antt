@@ -7,7 +7,6 @@ use mathlib.Core.Path.{◌≡◌, refl, sym, ap, ◌∙◌}
 use mathlib.Core.Logic.{◌≢◌, ◌↔◌}
 use Rattle.std.specs.Prelude.{None, Some, min}
 use mathlib.Core.List.{List, [], ◌∷◌, map, map-map}
-use lib.Dec.{leb}
 use lib.ListN.{length, drop, length-append, length-map}
 use lib.Seq.{take_at}
 use Rattle.model.specs.declared.Report.{Report}
@@ -21,7 +20,6 @@ use Rattle.model.specs.rules.Records.{Rec, rows, Read, Progress, going, read_fil
 use Rattle.model.specs.rules.Api.{Answer, reader, starts_of, ends_of, kinds_of, read_call}
 use Rattle.model.specs.laws.Laws.{All, all_none, all_cons}
 use Rattle.model.specs.laws.RoundTrips.{Decodes}
-use Rattle.model.proofs.Tests.{split}
 use Rattle.model.proofs.round_trip.AllTrips.{trips}
 use Rattle.grammar.specs.rfc.Derived.{Derived, kind_in, content_in, Line, cells_in, Each, each_none, each_cons}
 use Rattle.grammar.specs.dialects.Spans.{Span, stretches, span_of}
@@ -39,7 +37,7 @@ use Rattle.theorems.proofs.ReaderDerivation.{as_derived}
 -- ---- the shortest list
 
 below_least : (n a b : ℕ) → n ≤ a → n ≤ b → n ≤ min a b
-below_least n a b p q = split (λ (m : ℕ). n ≤ m) (leb a b) (λ _. p) λ _. q
+below_least n a b p q = omega arith
 
 module _ (starts ends kinds : List ℕ) where
   -- the room of a call with these lists
