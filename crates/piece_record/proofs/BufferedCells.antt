@@ -5,6 +5,8 @@ use mathlib.Core.Path.{◌≡◌, refl, sym, ap, ap₂, ◌∙◌}
 use mathlib.Core.Bool.{true}
 use mathlib.Core.List.{List, [], ◌∷◌}
 use lib.ListN.{length, take, drop, get_or, length-take, length-drop}
+use lib.Dec.{ltb}
+use borrow.Author.Tests.{ltb-true, ltb-false}
 use lib.Seq.{take_at, take-length, get_or-take, get_or-drop}
 use Rattle.model.specs.rules.Base.{choose◌then◌else◌, Bytes, over}
 use Rattle.model.specs.rules.Decode.{kind_number, kind_of}
@@ -13,7 +15,7 @@ use Rattle.model.specs.rules.Api.{slice, kinds_of, kind_named}
 use Rattle.model.specs.laws.Places.{values_in}
 use Rattle.model.specs.declared.Kind.{Kind}
 use Rattle.model.specs.declared.Kind.TheVariants.{Text, Number, True, False, Null}
-use Rattle.model.proofs.Tests.{impossible}
+use Rattle.model.proofs.Tests.{impossible, split_on}
 use Rattle.buffer.specs.Writes.{Room}
 use Rattle.cell_decoder.specs.declared.source.Source.TheVariants.{File}
 use Rattle.cell_decoder.specs.Followed.{EdFollows, EdFollowed}
@@ -122,6 +124,15 @@ no_ed_followed s h i l e = absurd (h i (omega arith) e)
 -- up to i each ED is followed
 abbrev pub FollowedTo : Bytes → ℕ → Type 0
 FollowedTo s i = (j : ℕ) → j + 1 < i → j + 1 < length s → get_or s j 0 ≡ 0xED → EdFollows s j
+
+pub followed_next : (s : Bytes) (i : ℕ) → FollowedTo s i → (get_or s (i - 1) 0 ≡ 0xED → (0x80 ≤ get_or s i 0) × (get_or s i 0 ≤ 0x9F)) → FollowedTo s (i + 1)
+followed_next s i h n j l m e =
+    split_on (ltb (j + 1) i) (λ p. h j (ltb-true (j + 1) i p) m e) λ p.
+    let g : i ≤ j + 1 = ltb-false (j + 1) i p in
+    let back : i - 1 ≡ j = omega arith in
+    let on : j + 1 ≡ i = omega arith in
+    let w = n (ap (λ (k : ℕ). get_or s k 0) back ∙ e) in
+    record { least = rw on w.0; most = rw on (omega (arith, w.1)) }
 
 -- ---- a span of bytes that can be written can be
 

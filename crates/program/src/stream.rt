@@ -114,9 +114,9 @@ pub fn convert(rt: &HostRuntime, source: u32, target: u32) {
         names: [0u8; MAX_RECORD],
         out: [0u8; LEAST_OUTPUT],
     };
-    for _ in 0..=MAX_FILE {
-        if !conversion.step(rt) {
-            return;
-        }
+    // By count, and no `for`: the must-fail edit `endless` shows that the count is what ends the loop.
+    let mut turns = MAX_FILE + 1;
+    while 0 < turns && conversion.step(rt) {
+        turns -= 1;
     }
 }
