@@ -58,7 +58,7 @@ fn write_repository(folder: &Path, count: usize, seed: u64) -> Result<String, St
         fs::write(proofs.join("Lib.antt"), "pub mod Vectors\n")?;
         fs::write(proofs.join("Vectors.antt"), &module.text)?;
         let model = repository().join("crates/model");
-        for part in ["src", "specs"] {
+        for part in ["src", "specs", "proofs"] {
             copy(&model.join(part), &folder.join("crates/model").join(part))?;
         }
         Ok(())
