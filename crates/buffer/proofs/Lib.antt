@@ -1,3 +1,4 @@
 pub mod BlockProgress
 pub mod Overlaps
+pub mod ShortTexts
 pub mod WriteProgress

@@ -10,7 +10,7 @@ ghost use Rattle.cell_decoder.specs.Strings.{unit_at, UnitThere, LowAt, Proceeds
 use buffer::short::Short;
 
 // The bytes of a part of a string, and where the string continues.
-#[derive(Drop)]
+#[derive(Clone, Copy)]
 pub struct Unescaped {
     pub text: Short<4>,
     pub next: usize,

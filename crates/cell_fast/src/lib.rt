@@ -40,7 +40,9 @@ fn closes(d: Dialect, q: u8, s: &[u8], i: usize, stop: usize) -> bool
     }
     match d {
         Dialect::Csvj => true,
-        Dialect::Tdif | Dialect::CsvPlus(_) => s[i + 1] != q,
+        // Two arms for one test: the must-fail edit `doubled_quote_closes` breaks one dialect alone.
+        Dialect::Tdif => s[i + 1] != q,
+        Dialect::CsvPlus(_) => s[i + 1] != q,
     }
 }
 

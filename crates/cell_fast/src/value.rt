@@ -9,12 +9,40 @@ ghost use Rattle.cell_fast.specs.TextRuns.{PassRun};
 ghost use Rattle.cell_fast.specs.Ends.{EndsBefore};
 ghost use Rattle.cell_fast.specs.BareValues.{Digits, is_letter_e, BeginsNumber, IntegerEnd, Letters};
 
-// The end of the digits from `at` on, of which there is at least one, before a byte that is no digit.
+// The end of the digits from `at` on, as far as the next eight bytes show.
+fn word_digits(s: &[u8], at: usize, stop: usize) -> usize
+    requires { (at ≤ stop) × (stop ≤ length s.now) }
+    ensures { PassRun is_digit s.now at stop result }
+{
+    if stop - at < 8 {
+        return at;
+    }
+    at + swar::before_flag(swar::no_digit(swar::word(s, at)))
+}
+
+// The end of the whole words of digits from `at` on, or of the digits in the word after them. A `while`: a step takes eight bytes.
+fn digit_words(s: &[u8], at: usize, stop: usize) -> usize
+    requires { (at ≤ stop) × (stop ≤ length s.now) }
+    ensures { PassRun is_digit s.now at stop result }
+{
+    let mut i = at;
+    while 8 <= stop - i {
+        let next = word_digits(s, i, stop);
+        if next < i + 8 {
+            return next;
+        }
+        i = next;
+    }
+    i
+}
+
+// The end of the digits from `at` on, of which there is at least one, before a byte that is no digit. Most of them are passed by words:
+// a byte at a time, a number of many digits took twice the time.
 fn digits_end(s: &[u8], at: usize, stop: usize) -> Option<usize>
     requires { (at ≤ stop) × (stop ≤ length s.now) }
     ensures { IfSome result (Digits s.now at stop) }
 {
-    for i in at..stop {
+    for i in digit_words(s, at, stop)..stop {
         if !cell_lexer::values::is_digit(s[i]) {
             if i == at {
                 return None;
@@ -87,17 +115,6 @@ fn stepwise_end(s: &[u8], at: usize, stop: usize) -> Option<usize>
         }
         _ => None,
     }
-}
-
-// The end of the digits from `at` on, as far as the next eight bytes show.
-fn word_digits(s: &[u8], at: usize, stop: usize) -> usize
-    requires { (at ≤ stop) × (stop ≤ length s.now) }
-    ensures { PassRun is_digit s.now at stop result }
-{
-    if stop - at < 8 {
-        return at;
-    }
-    at + swar::before_flag(swar::no_digit(swar::word(s, at)))
 }
 
 // Whether the bytes from `at` up to the comma at `end` are a number without sign and exponent; false also as fallback.

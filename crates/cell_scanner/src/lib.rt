@@ -75,7 +75,9 @@ fn run(s: &[u8], at: usize, stop: usize, p: u8, q: u8) -> usize
 // A comment has no stops of its own, and 0 is not ordinary.
 const NO_STOP: u8 = 0;
 
-// The end of a comment's ordinary bytes from `at`, at most `stop`.
+// The end of a comment's ordinary bytes from `at`, at most `stop`. Kept out of the scanner's loop, which would else hold the words of a
+// run for each byte between cells.
+#[inline(never)]
 pub fn comment_run(s: &[u8], at: usize, stop: usize) -> usize
     requires { (at ≤ stop) × (stop ≤ length s.now) }
     ensures { result ≡ at + comment_run (slice s.now at stop) }

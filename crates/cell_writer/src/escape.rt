@@ -104,9 +104,7 @@ fn verbatim(unit: &[u8]) -> Short<6>
     requires { length unit.now ≤ 6 }
     ensures { result ≡ unit.now }
 {
-    let mut bytes = [0u8; 6];
-    let size = buffer::copy(&mut bytes, 0, unit);
-    Short::new(bytes, size)
+    Short::of(unit)
 }
 
 // The text of a unit.

@@ -59,7 +59,7 @@ const SECTIONS: [(&str, &str, &str); 6] = [
     ("Comparisons at each run of the tests", "", "comparisons"),
     (
         "Contracts",
-        "Public functions, with the definitions that the contract (`ensures`) names in the order in which it names them; the source has the whole statement. *Requires*: whether the caller has to establish something.",
+        "Public functions, with the definitions that the contract (`ensures`, or the law of a conversion) names in the order in which it names them; the source has the whole statement. *Requires*: whether the caller has to establish something.",
         "contracts",
     ),
 ];

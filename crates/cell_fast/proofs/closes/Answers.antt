@@ -16,6 +16,12 @@ returns-in-Csvj c =
 
 pub returns-in-Tdif : goal.returns-in-Tdif
 returns-in-Tdif c = λ e.
-    let doubles : is_csvj c.args.d ≡ false = grind (arith, c.in-Tdif.is) in
+    let doubles : is_csvj c.args.d ≡ false = rw c.in-Tdif.is in
+    quote_closes c.args.s.now c.args.stop c.args.i c.requires.1 c.args.d doubles (omega arith)
+    (c.if-s-i.false ∙ c.requires.2) (λ f. eqb-false _ _ (not-true _ e) (f ∙ sym c.requires.2))
+
+pub returns-in-CsvPlus : goal.returns-in-CsvPlus
+returns-in-CsvPlus c = λ e.
+    let doubles : is_csvj c.args.d ≡ false = rw c.in-CsvPlus.is in
     quote_closes c.args.s.now c.args.stop c.args.i c.requires.1 c.args.d doubles (omega arith)
     (c.if-s-i.false ∙ c.requires.2) (λ f. eqb-false _ _ (not-true _ e) (f ∙ sym c.requires.2))

@@ -1,4 +1,4 @@
-//! The public functions and the definitions that their contracts name.
+//! The public functions, conversions of a trait among them, and the definitions that their contracts name.
 
 use super::crates::Crate;
 use super::{read, Table};
@@ -71,13 +71,20 @@ fn in_source(module: &str, source: &str) -> Vec<Contract> {
     let mut contracts: Vec<Contract> = Vec::new();
     let (mut of_type, mut in_head, mut in_ensures) = (String::new(), false, false);
     for line in source.lines() {
-        if let Some(name) = line.strip_prefix("impl ") {
-            of_type = format!("{}::", name.trim_end_matches(" {"));
+        if let Some(name) = implementing(line) {
+            of_type = format!("{name}::");
         } else if line == "}" {
             of_type.clear();
         }
         let line = line.trim();
-        if let Some(name) = public_function(line) {
+        if let Some((name, law)) = given(line) {
+            // By its type alone, as it is called: it may be a type of another crate.
+            contracts.push(Contract {
+                function: format!("{of_type}{name}"),
+                requires: false,
+                names: named(law, &imported),
+            });
+        } else if let Some(name) = public_function(line) {
             (in_head, in_ensures) = (true, false);
             contracts.push(Contract {
                 function: format!("{module}::{of_type}{name}"),
@@ -93,16 +100,41 @@ fn in_source(module: &str, source: &str) -> Vec<Contract> {
         contract.requires |= line.starts_with("requires ");
         in_ensures = (in_ensures || line.starts_with("ensures ")) && !line.starts_with("requires ");
         if in_ensures {
-            for name in line.split(|c: char| !is_of_name(c)) {
-                if imported.iter().any(|one| one == name)
-                    && !contract.names.iter().any(|one| one == name)
-                {
-                    contract.names.push(name.to_string());
+            for name in named(line, &imported) {
+                if !contract.names.contains(&name) {
+                    contract.names.push(name);
                 }
             }
         }
     }
     contracts
+}
+
+/// The type whose methods follow a line: `Short` of `impl<const N: usize> Short<N> {`, `Kind` of `impl TryFrom<u8> for Kind {`.
+fn implementing(line: &str) -> Option<&str> {
+    let mut rest = line.strip_prefix("impl")?;
+    if let Some(parameters) = rest.strip_prefix('<') {
+        rest = parameters.split_once("> ")?.1;
+    }
+    let rest = rest.trim_start().trim_end_matches(" {");
+    let name = rest.split_once(" for ").map_or(rest, |(_, name)| name);
+    name.split('<').next()
+}
+
+/// The function of a trait whose contract is a ghost member, as a conversion's is, with that member: `try_from` of `ghost try_from_gives`.
+fn given(line: &str) -> Option<(&str, &str)> {
+    line.strip_prefix("ghost ")?.split_once("_gives = ")
+}
+
+/// The definitions that a line names, each once.
+fn named(line: &str, imported: &[String]) -> Vec<String> {
+    let mut names: Vec<String> = Vec::new();
+    for name in line.split(|c: char| !is_of_name(c)) {
+        if imported.iter().any(|one| one == name) && !names.iter().any(|one| one == name) {
+            names.push(name.to_string());
+        }
+    }
+    names
 }
 
 /// The name of the public function that a line begins.
@@ -143,7 +175,7 @@ mod tests {
 
     #[test]
     fn contracts_are_taken_from_sources() {
-        let source = "ghost use Rattle.std.specs.Prelude.{◌≡◌, length};\nghost use Rattle.model.specs.declared.Kind.{Kind};\nghost use Rattle.a.specs.B.{Good, step as next_step};\n\n// A.\npub fn one(x: u8) -> u8\n    requires { Good x }\n    ensures kind { Kind × (length result ≡ next_step x)\n        × Good result × Good x }\n{\n    fn ensures\n}\n\nfn two()\n    ensures { Good 1 }\n{\n}\n\nimpl C {\n    pub extern \"C\" fn three()\n    {\n    }\n}\n";
+        let source = "ghost use Rattle.std.specs.Prelude.{◌≡◌, length};\nghost use Rattle.model.specs.declared.Kind.{Kind};\nghost use Rattle.a.specs.B.{Good, step as next_step};\n\n// A.\npub fn one(x: u8) -> u8\n    requires { Good x }\n    ensures kind { Kind × (length result ≡ next_step x)\n        × Good result × Good x }\n{\n    fn ensures\n}\n\nfn two()\n    ensures { Good 1 }\n{\n}\n\nimpl C {\n    pub extern \"C\" fn three()\n    {\n    }\n}\n\nimpl<const N: usize> D<N> {\n    pub fn four()\n        ensures { Good 4 }\n    {\n    }\n}\n\nimpl TryFrom<u8> for E {\n    type Error = F;\n\n    ghost try_from_gives = { λ n r. next_step r ≡ n };\n\n    fn try_from(n: u8) -> Result<E, F> {\n        g(n)\n    }\n}\n";
         let contract = |function: &str, requires, names: &[&str]| Contract {
             function: function.to_string(),
             requires,
@@ -152,6 +184,8 @@ mod tests {
         let expected = [
             contract("a::b::one", true, &["next_step", "Good"]),
             contract("a::b::C::three", false, &[]),
+            contract("a::b::D::four", false, &["Good"]),
+            contract("E::try_from", false, &["next_step"]),
         ];
         assert_eq!(in_source("a::b", source), expected);
         assert_eq!(module("a", "lib.rt"), "a");

@@ -1,9 +1,6 @@
 use mathlib.Core.Path.{sym, ◌∙◌}
-use Rattle.cell_fast.proofs.PassRuns.{pass_none, pass_byte}
+use Rattle.cell_fast.proofs.PassRuns.{pass_byte}
 use Rattle.cell_fast.proofs.value.digits_end.Goals as goal
-
-pub loop-i-init : goal.loop-i-init
-loop-i-init c = pass_none c.args.s.now c.args.at c.args.stop c.requires.0
 
 pub loop-i-preserved : goal.loop-i-preserved
 loop-i-preserved c =
