@@ -11,5 +11,6 @@ pub mod WordReads
 pub mod FlaggedPrefix
 pub mod AllPass
 pub mod TextBytes
+pub mod TwoByteTest
 pub mod Spans
 pub mod CleanBytes

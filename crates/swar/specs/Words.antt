@@ -1,6 +1,7 @@
 -- Bytes as one number, little-endian, and tests of eight bytes at once.
 use Rattle.std.specs.Prelude.{ℕ, zero, suc, ◌+◌, ◌*◌, ◌/◌, ◌%◌, ◌≤◌, ◌<◌, ◌≡◌, Bool, true, not, ◌&&◌, [], ◌∷◌, map, ltb, leb, get_or}
 use Rattle.model.specs.rules.Base.{Bytes, choose◌then◌else◌, ◌is◌, within, QUOTE, BACKSLASH}
+use Rattle.model.specs.rules.Utf8.{is_later}
 
 -- bytes as one number, the first lowest
 unfoldable pub word_of : Bytes → ℕ
@@ -74,6 +75,15 @@ zero_bytes (b ∷ bs) = choose b is 0 then suc (zero_bytes bs) else 0
 unfoldable pub passing : (passes : ℕ → Bool) → Bytes → ℕ
 passing passes [] = 0
 passing passes (b ∷ bs) = choose passes b then suc (passing passes bs) else 0
+
+-- how many first bytes pass two tests by turns: the first byte one, the next byte the other
+unfoldable pub by_turns : (this other : ℕ → Bool) → Bytes → ℕ
+by_turns this other [] = 0
+by_turns this other (b ∷ bs) = choose this b then suc (by_turns other this bs) else 0
+
+-- how many first bytes lie as in characters of two bytes: C2 to DF hex, then a later byte (§2.11)
+abbrev pub two_byte_prefix : Bytes → ℕ
+two_byte_prefix bs = by_turns (within 0xC2 0xDF) is_later bs
 
 -- ---- spans of bytes
 

@@ -3,14 +3,15 @@
 // those of specs/Words.antt.
 //
 // The tests are exact, since no operation carries or borrows across a byte: each byte of a sum is at most FF hex, and each byte of a
-// difference subtracts no more than it has. A new test needs the values on one byte and the laws of proofs/Bytewise.antt.
+// difference subtracts no more than it has. A new test needs the values on one byte and the laws of proofs/Bytewise.antt. `no_two_bytes`
+// alone has a flag of another form.
 #![tactic(auto)]
 
 ghost use Rattle.std.specs.Prelude.{◌≡◌, ◌+◌, ◌*◌, ◌≤◌, ◌<◌, [], ◌∷◌, ◌++◌, length, get_or, IfSome};
 ghost use Rattle.model.specs.rules.Base.{QUOTE};
 ghost use Rattle.model.specs.rules.Cell.{is_digit};
 ghost use Rattle.model.specs.rules.Api.{slice};
-ghost use Rattle.swar.specs.Words.{word_of, Word, ONES, bytes_of, ascii_stop, ordinary, clean_ascii, is_clean, plain_text, is_byte, is_below, Flags, zero_bytes, LastBytes};
+ghost use Rattle.swar.specs.Words.{word_of, Word, ONES, bytes_of, ascii_stop, ordinary, clean_ascii, is_clean, plain_text, is_byte, is_below, Flags, zero_bytes, LastBytes, two_byte_prefix};
 
 // Eight bytes as one number, the first lowest. They are joined by |, which the compiler turns into one load at once. A sum, as
 // `u64::from_le_bytes` is, it recognizes only after it has refused to inline the caller's loop, and tables of short cells took a tenth
@@ -182,6 +183,17 @@ pub fn from_20(w: u64) -> u64
     ensures { Flags (is_below 0x20) w result }
 {
     (((w & LOW_BITS) + 0x6060606060606060) | w) & TOP_BITS
+}
+
+// Not 0 in the first byte that does not lie as in four characters of two bytes, of which the first begins with the word, and 0 in those
+// before it; nothing is promised of those after it. The mask leaves of `rest` the top bits where they are not 110 and 10 by turns. They are
+// 110 in C0 and C1 hex too, which begin no character: only there the mask of `too_low` leaves 0, and 21 hex minus it has the bit 20.
+pub fn no_two_bytes(w: u64) -> u64
+    ensures { zero_bytes (bytes_of 8 result) ≡ two_byte_prefix (bytes_of 8 w) }
+{
+    let rest = w ^ 0x80C080C080C080C0;
+    let too_low = 0x0021002100210021 - (w & 0x001E001E001E001E);
+    (rest | too_low) & 0xC0E0C0E0C0E0C0E0
 }
 
 // The number of bytes before the first flag.

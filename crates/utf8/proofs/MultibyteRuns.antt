@@ -1,12 +1,13 @@
--- Laws of runs of whole non-ASCII characters: runs join, and a character of each length is a run.
-use Prim.Native.Nat.{ℕ, suc, ◌+◌, ◌-◌, ◌≤◌, ◌<◌}
+-- Laws of runs of whole non-ASCII characters: runs join, a character of each length is a run, and so are those of two bytes that begin a
+-- word.
+use Prim.Native.Nat.{ℕ, suc, ◌+◌, ◌-◌, ◌*◌, ◌/◌, ◌≤◌, ◌<◌}
 use native.Mathlib.Omega.{arith}
 use mathlib.Core.Path.{◌≡◌, refl, ap, ◌∙◌}
 use mathlib.Core.Bool.{true, and-false}
 use mathlib.Core.List.{[], ◌∷◌, ◌++◌}
 use lib.Dec.{leb}
 use lib.ListN.{length, take, drop, get_or}
-use lib.Seq.{drop-cons, drop-drop, take-add}
+use lib.Seq.{drop-cons, drop-drop, take-add, take-take}
 use borrow.Author.Tests.{le-leb, lt-leb, leb-true, leb-false}
 use Rattle.model.specs.declared.Lead.{Lead}
 use Rattle.model.specs.declared.Lead.TheVariants.{C2ToDf, E0, E1ToEc, Ed, EeToEf, F0, F1ToF3, F4}
@@ -20,6 +21,7 @@ use Rattle.model.specs.rules.Utf8.{row_of, leads, lead_byte, after_second, inner
 use Rattle.model.specs.rules.Api.{slice}
 use Rattle.model.proofs.Tests.{split_on, and_true, within_true}
 use Rattle.model.proofs.cell_laws.Utf8.{ascii_whole, inner_high, broken_on}
+use Rattle.swar.specs.Words.{bytes_of, by_turns, two_byte_prefix, Word}
 use Rattle.utf8.specs.declared.Row.{Row}
 use Rattle.utf8.specs.Table.{IsRow}
 use Rattle.utf8.specs.Multibyte.{chars_from, all_high, WideText, WideRun}
@@ -63,9 +65,15 @@ unfolding all_high
 high_join [] ys e h = h
 high_join (b ∷ xs) ys e h = let k = and_true (leb 0x80 b) (all_high xs) e in rw (k.0, high_join xs ys k.1 h)
 
-pub wide_none : (s : Bytes) (i stop : ℕ) → i ≤ stop → WideRun s i stop i
+text_join : {xs ys : Bytes} → WideText xs → WideText ys → WideText (xs ++ ys)
+text_join {xs} {ys} x y = record { high = high_join xs ys x.high y.high; whole = chars_join Whole Whole xs ys x.whole ∙ y.whole }
+
+wide_empty : WideText []
 unfolding chars_from all_high
-wide_none s i stop h = record { from = omega arith; upto = h; characters = rw (part_none s i) (record { high = refl; whole = refl }) }
+wide_empty = record { high = refl; whole = refl }
+
+pub wide_none : (s : Bytes) (i stop : ℕ) → i ≤ stop → WideRun s i stop i
+wide_none s i stop h = record { from = omega arith; upto = h; characters = rw (part_none s i) wide_empty }
 
 pub wide_join : {s : Bytes} {at i stop r : ℕ} → WideRun s at stop i → WideRun s i stop r → WideRun s at stop r
 wide_join {s} {at} {i} {stop} {r} x y =
@@ -75,12 +83,7 @@ wide_join {s} {at} {i} {stop} {r} x y =
     record {
       from = omega arith;
       upto = y.upto;
-      characters =
-          rw l
-          (record {
-            high = high_join (slice s at i) (slice s i r) x.characters.high y.characters.high;
-            whole = chars_join Whole Whole (slice s at i) (slice s i r) x.characters.whole ∙ y.characters.whole;
-          });
+      characters = rw l (text_join x.characters y.characters);
     }
 
 -- ---- one character
@@ -150,6 +153,47 @@ beyond_ascii : (b : ℕ) → 0x7F < b → char_step Whole b ≡ lead_byte leads 
 unfolding char_step choose◌then◌else◌
 beyond_ascii b h = rw (lt-leb b 0x7F h, and-false (leb 0x00 b))
 
+-- ---- characters of two bytes in a word
+
+two_first : (b : ℕ) → within 0xC2 0xDF b ≡ true → char_step Whole b ≡ Some (Within (Second C2ToDf))
+unfolding leads lead_byte row_of choose◌then◌else◌
+two_first b e = let h = within_true 0xC2 0xDF b e in beyond_ascii b (omega arith) ∙ rw e
+
+-- the characters of the prefix are whole
+record WholePairs (bs : Bytes) : Type 0 where
+  text : WideText (take (two_byte_prefix bs / 2 * 2) bs)
+
+no_pairs : WholePairs []
+unfolding by_turns
+no_pairs = record { text = wide_empty }
+
+pairs_on : {a b : ℕ} {bs : Bytes} → WholePairs bs → WholePairs (a ∷ b ∷ bs)
+unfolding by_turns row_of choose◌then◌else◌
+pairs_on {a} {b} {bs} others =
+    record {
+      text =
+          split_on (within 0xC2 0xDF a)
+          (λ t.
+          split_on (is_later b)
+          (λ u.
+          let h = within_true 0x80 0xBF b u in
+          let two : suc (suc (two_byte_prefix bs)) / 2 * 2 ≡ suc (suc (two_byte_prefix bs / 2 * 2)) = omega arith in
+          rw (t, u, two) (text_join (wide_two C2ToDf a b (two_first a t) h.0 h.1 refl) others.text))
+          λ u. rw (t, u) wide_empty)
+          λ t. rw t wide_empty;
+    }
+
+pub pairs_run : {s : Bytes} {i stop w n : ℕ} → i + 8 ≤ stop → Word (slice s i (i + 8)) w → n ≡ two_byte_prefix (bytes_of 8 w) → n ≤ 8
+    → WideRun s i stop (i + n / 2 * 2)
+unfolding bytes_of
+pairs_run {s} {i} {stop} {w} {n} h is_word e most =
+    let m : ℕ = n / 2 * 2 in
+    let pairs : WholePairs (bytes_of 8 w) = pairs_on (pairs_on (pairs_on (pairs_on no_pairs))) in
+    let word : take m (bytes_of 8 w) ≡ take m (take (i + 8 - i) (drop i s)) = ap (take m) is_word.bytes in
+    let part : slice s i (i + m) ≡ take m (bytes_of 8 w) =
+    rw (word, take-take m (i + 8 - i) (drop i s) (omega arith)) (ap (λ (k : ℕ). take k (drop i s)) (omega arith)) in
+    record { from = omega arith; upto = omega arith; characters = rw (part, e) pairs.text }
+
 -- ---- the character at an offset
 
 longest : (l : Lead) → (row_of l).size ≤ 4
@@ -202,16 +246,13 @@ module _ (s : Bytes) (i stop : ℕ) (inside : stop ≤ length s) where
         let w = wide_two r.lead (get_or s i 0) (get_or s (i + 1) 0) begun low top (omega (arith, row.size)) in
         record { from = omega arith; upto = h; characters = rw (bytes_two h) w }
 
-    pub run_three : r.length ≡ 3 → i + r.length ≤ stop → is_later (get_or s (i + 2) 0) ≡ true → WideRun s i stop (i + r.length)
+    pub run_three : r.length ≡ 3 → i + 3 ≤ stop → is_later (get_or s (i + 2) 0) ≡ true → WideRun s i stop (i + 3)
     run_three n h third =
-        let h' : i + 3 ≤ stop = omega arith in
         let w = wide_three r.lead (get_or s i 0) (get_or s (i + 1) 0) begun low top (get_or s (i + 2) 0) (omega (arith, row.size)) third in
-        record { from = omega arith; upto = h; characters = rw (n, bytes_three h') w }
+        record { from = omega arith; upto = h; characters = rw (bytes_three h) w }
 
-    pub run_four : 4 ≤ r.length → i + r.length ≤ stop → is_later (get_or s (i + 2) 0) ≡ true → is_later (get_or s (i + 3) 0) ≡ true → WideRun s i stop (i + r.length)
+    pub run_four : 4 ≤ r.length → i + 4 ≤ stop → is_later (get_or s (i + 2) 0) ≡ true → is_later (get_or s (i + 3) 0) ≡ true → WideRun s i stop (i + 4)
     run_four k h third fourth =
-        let n : r.length ≡ 4 = omega (arith, row.size, longest r.lead) in
-        let h' : i + 4 ≤ stop = omega arith in
-        let size : (row_of r.lead).size ≡ 4 = omega (arith, row.size) in
+        let size : (row_of r.lead).size ≡ 4 = omega (arith, row.size, longest r.lead) in
         let w = wide_four r.lead (get_or s i 0) (get_or s (i + 1) 0) begun low top (get_or s (i + 2) 0) (get_or s (i + 3) 0) size third fourth in
-        record { from = omega arith; upto = h; characters = rw (n, bytes_four h') w }
+        record { from = omega arith; upto = h; characters = rw (bytes_four h) w }

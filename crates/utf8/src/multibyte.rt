@@ -1,9 +1,9 @@
-// Runs of whole non-ASCII characters, validated by the table a character at a time. A slice and an offset go in, the end of the run comes
-// out (`WideRun` of specs/Multibyte.antt).
+// Runs of whole non-ASCII characters, validated by the table a character at a time, and four characters of two bytes at a time. A slice
+// and an offset go in, the end of the run comes out (`WideRun` of specs/Multibyte.antt).
 ghost use Rattle.std.specs.Prelude.{◌≤◌, length};
 ghost use Rattle.utf8.specs.Multibyte.{WideEnd, WideRun};
 
-use crate::{is_later, row_for};
+use crate::{ROWS, is_later, row_for};
 
 // The end of the character at i, unless it is ASCII, broken or passes `stop`.
 fn char_end(s: &[u8], i: usize, stop: usize) -> Option<usize>
@@ -14,7 +14,7 @@ fn char_end(s: &[u8], i: usize, stop: usize) -> Option<usize>
         return None;
     }
     let row = row_for(s[i])?;
-    // Two bytes have a path of their own, of 7 instructions a byte: one path for all lengths takes 11.5.
+    // Each length has a path of its own, so that its size and its tests are constants.
     if row.length == 2 {
         return if stop - i >= 2 && row.has_second(s[i + 1]) {
             Some(i + 2)
@@ -22,23 +22,69 @@ fn char_end(s: &[u8], i: usize, stop: usize) -> Option<usize>
             None
         };
     }
-    let size = row.length as usize;
-    if stop - i < size || !row.has_second(s[i + 1]) || !is_later(s[i + 2]) {
-        return None;
+    if row.length == 3 {
+        return if stop - i >= 3 && row.has_second(s[i + 1]) && is_later(s[i + 2]) {
+            Some(i + 3)
+        } else {
+            None
+        };
     }
-    if size == 3 || is_later(s[i + 3]) {
-        Some(i + size)
+    if stop - i >= 4 && row.has_second(s[i + 1]) && is_later(s[i + 2]) && is_later(s[i + 3]) {
+        Some(i + 4)
     } else {
         None
     }
 }
 
-// The end of the run of whole non-ASCII characters from `at`, at most `stop`.
+// The end of the character at i, if it has two bytes and ends by `stop`.
+fn two_byte_end(s: &[u8], i: usize, stop: usize) -> Option<usize>
+    requires { (i ≤ stop) × (stop ≤ length s.now) }
+    ensures { WideEnd s.now i stop result }
+{
+    if stop - i < 2 {
+        return None;
+    }
+    let row = row_for(s[i])?;
+    if row.length != 2 || !row.has_second(s[i + 1]) {
+        return None;
+    }
+    Some(i + 2)
+}
+
+// The end of the characters of two bytes from `at`, at most `stop`, read by words: the last bytes before `stop` may be left. A `while`: a
+// step takes eight bytes. The place of the next word depends on no word, so that a word costs no more than its test; only the last one is
+// searched for its first flag.
+fn two_byte_words(s: &[u8], at: usize, stop: usize) -> usize
+    requires { (at ≤ stop) × (stop ≤ length s.now) }
+    ensures { WideRun s.now at stop result }
+{
+    let mut i = at;
+    while 8 <= stop - i {
+        let flags = swar::no_two_bytes(swar::word(s, i));
+        if flags != 0 {
+            return i + swar::before_flag(flags) / 2 * 2;
+        }
+        i += 8;
+    }
+    i
+}
+
+// The end of the run of whole non-ASCII characters from `at`, at most `stop`. Words are tried once a run, and only after a character of two
+// bytes that another character beyond ASCII follows: a single one among ASCII, and a run that begins with a longer one, don't pay for them.
+//
+// It is part of the two loops that call it. As a call of its own it took 3 to 7 percent more instructions in tables of ASCII alone.
+#[inline(always)]
 pub fn multibyte_run(s: &[u8], at: usize, stop: usize) -> usize
     requires { (at ≤ stop) × (stop ≤ length s.now) }
     ensures { WideRun s.now at stop result }
 {
     let mut i = at;
+    if let Some(first) = two_byte_end(s, at, stop) {
+        if stop <= first || s[first] < ROWS[0].first {
+            return first;
+        }
+        i = two_byte_words(s, first, stop);
+    }
     while let Some(next) = char_end(s, i, stop) {
         i = next;
     }
