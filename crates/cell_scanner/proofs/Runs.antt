@@ -13,6 +13,7 @@ use Rattle.model.specs.declared.Dialect.{Dialect}
 use Rattle.model.specs.declared.Dialect.TheVariants.{Csvj, Tdif, CsvPlus}
 use Rattle.model.specs.declared.Char.TheVariants.{Whole, Within}
 use Rattle.model.specs.declared.Cell.{Cell}
+use Rattle.model.specs.declared.Numeral.TheVariants.{Integer, Fraction, Exponent}
 use Rattle.model.specs.declared.Cell.TheVariants.{Fresh, Quoted, Closed, Escape, Hex, InNumber, InWord, Plain, Complete}
 use Rattle.model.specs.declared.CellStep.TheVariants.{More, Stop, Refuse}
 use Rattle.model.specs.declared.ByteFault.{ByteFault}
@@ -21,14 +22,14 @@ use Rattle.model.specs.declared.ByteRole.TheVariants.{Outside}
 use Rattle.std.specs.Prelude.{Ok, Option, Some, None}
 use Rattle.model.specs.rules.Base.{Bytes, choose◌then◌else◌, within, ◌is◌, QUOTE, CR, LF}
 use Rattle.model.specs.rules.Dialect.{quote_of, delimiter_of}
-use Rattle.model.specs.rules.Cell.{quoted_byte, plain_byte, cell_step}
+use Rattle.model.specs.rules.Cell.{numeral_step, quoted_byte, plain_byte, cell_step}
 use Rattle.model.specs.rules.File.{file_step}
 use Rattle.model.proofs.Tests.{impossible, within_true}
 use Rattle.model.proofs.cell_laws.Utf8.{ascii_whole}
 use Rattle.cell_scanner.specs.declared.CellEnd.TheVariants.{Stopped, Refused, Open}
 use Rattle.model.specs.rules.Api.{slice}
 use Rattle.swar.proofs.FlaggedPrefix.{passing_short}
-use Rattle.cell_scanner.specs.Run.{ordinary, leading, run_stop, run_length, cell_run}
+use Rattle.cell_scanner.specs.Run.{ordinary, leading, run_stop, run_length, cell_run, KeepsDigits, RestFrom}
 
 pub part_next : (s : Bytes) (i stop : ℕ) → i < stop → stop ≤ length s → slice s i stop ≡ get_or s i 0 ∷ slice s (i + 1) stop
 part_next s i stop h k =
@@ -198,3 +199,37 @@ part_short p q s i stop h k =
 pub run_short : (d : Dialect) (r : Option ℕ) (s : Bytes) (i stop : ℕ) → i ≤ stop → stop ≤ length s → i + run_length d r (slice s i stop) ≤ stop
 run_short d (Some q) s i stop h k = part_short (quote_of d) q s i stop h k
 run_short d None s i stop h k = omega arith
+
+-- ---- the same rest, from a later byte on
+
+pub rest_here : (d : Dialect) (c : Cell) (s : Bytes) (stop at : ℕ) → at ≤ stop → RestFrom d c s stop at at
+rest_here d c s stop at h = record { from = omega arith; upto = h; same = refl }
+
+pub rest_on : {d : Dialect} {c : Cell} {s : Bytes} {stop at i : ℕ} → RestFrom d c s stop at i → i < stop → stop ≤ length s
+    → cell_step d c (get_or s i 0) ≡ More c → RestFrom d c s stop at (i + 1)
+rest_on {d} {c} {s} {stop} {at} {i} x h k e =
+    let from : at ≤ i = x.from in
+    record { from = omega arith; upto = omega arith; same = x.same ∙ rest_more d c s i stop h k c e }
+
+pub rest_run : (d : Dialect) (c : Cell) (q : ℕ) (s : Bytes) (stop at r : ℕ) → at ≤ stop → stop ≤ length s → run_stop d c ≡ Some q
+    → r ≡ at + leading (quote_of d) q (slice s at stop) → RestFrom d c s stop at r
+rest_run d c q s stop at r h k e f =
+    let n : run_length d (run_stop d c) (slice s at stop) ≡ leading (quote_of d) q (slice s at stop) = rw e in
+    let same = run_rest d c s at stop in
+    let short = run_short d (run_stop d c) s at stop h k in
+    let l : r ≡ at + run_length d (run_stop d c) (slice s at stop) = f ∙ ap (λ (m : ℕ). at + m) (sym n) in
+    record { from = omega arith; upto = omega arith; same = rw l same }
+
+-- ---- digits leave the state of a number unchanged
+
+pub integer_keeps : KeepsDigits (InNumber Integer)
+unfolding cell_step numeral_step choose◌then◌else◌
+integer_keeps d b e = rw e
+
+pub fraction_keeps : KeepsDigits (InNumber Fraction)
+unfolding cell_step numeral_step choose◌then◌else◌
+fraction_keeps d b e = rw e
+
+pub exponent_keeps : KeepsDigits (InNumber Exponent)
+unfolding cell_step numeral_step choose◌then◌else◌
+exponent_keeps d b e = rw e

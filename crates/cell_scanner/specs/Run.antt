@@ -1,5 +1,5 @@
--- Runs of ordinary ASCII bytes, and the rest of a cell.
-use Rattle.std.specs.Prelude.{ℕ, suc, [], ◌∷◌, Option, Some, None}
+-- Runs of ordinary ASCII bytes, digits of a number, and the rest of a cell.
+use Rattle.std.specs.Prelude.{ℕ, suc, ◌≤◌, ◌≡◌, true, [], ◌∷◌, Option, Some, None}
 use Rattle.model.specs.declared.Dialect.{Dialect}
 use Rattle.model.specs.declared.Char.{Char}
 use Rattle.model.specs.declared.Char.TheVariants.{Whole, Within}
@@ -8,7 +8,8 @@ use Rattle.model.specs.declared.Cell.TheVariants.{Fresh, Quoted, Closed, Escape,
 use Rattle.model.specs.declared.CellStep.TheVariants.{More, Stop, Refuse}
 use Rattle.model.specs.rules.Base.{Bytes}
 use Rattle.model.specs.rules.Dialect.{delimiter_of, quote_of}
-use Rattle.model.specs.rules.Cell.{cell_step}
+use Rattle.model.specs.rules.Api.{slice}
+use Rattle.model.specs.rules.Cell.{is_digit, cell_step}
 unfoldable pub use Rattle.swar.specs.Words.{ordinary}
 use Rattle.swar.specs.Words.{passing}
 use Rattle.cell_scanner.specs.declared.CellEnd.{CellEnd}
@@ -50,3 +51,15 @@ run_stop d Complete = None
 abbrev pub run_length : Dialect → Option ℕ → Bytes → ℕ
 run_length d (Some q) bs = leading (quote_of d) q bs
 run_length d None bs = 0
+
+-- ---- bytes that need no step
+
+-- digits leave the state unchanged (§3.5)
+abbrev pub KeepsDigits : Cell → Type 0
+KeepsDigits c = (d : Dialect) (b : ℕ) → is_digit b ≡ true → cell_step d c b ≡ More c
+
+-- from `at` on, the rest of the cell is the same as from r on
+pub record RestFrom (d : Dialect) (c : Cell) (s : Bytes) (stop at r : ℕ) : Type 0 where
+  pub from : at ≤ r
+  pub upto : r ≤ stop
+  pub same : cell_run d c at (slice s at stop) ≡ cell_run d c r (slice s r stop)

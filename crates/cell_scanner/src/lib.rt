@@ -1,14 +1,16 @@
-// The rest of a cell or of a comment, by the automaton and by runs of ordinary ASCII bytes, eight to a step. A state and a slice go in;
-// where the cell stops or is refused comes out, or the state in which it is still open. The definitions are `cell_run` and `leading` of
-// specs/Run.antt; specs/RunLaw.antt says why a reader may skip a run. A new stop of a run needs `run_step` of proofs/Runs.antt again.
+// The rest of a cell or of a comment, by the automaton, by runs of ordinary ASCII bytes, eight to a step, and by the digits of a number.
+// A state and a slice go in; where the cell stops or is refused comes out, or the state in which it is still open. The definitions are
+// `cell_run` and `leading` of specs/Run.antt; specs/RunLaw.antt says why a reader may skip a run. A new stop of a run needs `run_step` of
+// proofs/Runs.antt again.
 #![tactic(auto)]
 
-ghost use Rattle.std.specs.Prelude.{◌≡◌, ◌+◌, ◌/◌, ◌%◌, ◌≤◌, ◌<◌, length};
+ghost use Rattle.std.specs.Prelude.{◌≡◌, true, ◌+◌, ◌/◌, ◌%◌, ◌≤◌, ◌<◌, length};
 ghost use Rattle.model.specs.rules.Api.{slice};
 ghost use Rattle.swar.specs.Words.{ordinary};
-ghost use Rattle.cell_scanner.specs.Run.{leading, comment_run, text_stop, run_stop, run_length, cell_run};
+ghost use Rattle.model.specs.declared.Dialect.{Dialect as TheDialect};
+ghost use Rattle.cell_scanner.specs.Run.{leading, comment_run, text_stop, run_stop, cell_run, KeepsDigits, RestFrom};
 
-use model::{ByteFault, Cell, CellStep, Char, Dialect};
+use model::{ByteFault, Cell, CellStep, Char, Dialect, Numeral};
 
 // Whether a run with these stops passes a byte.
 #[tactic(auto, unfolding(swar::specs::Words::ordinary))]
@@ -112,14 +114,45 @@ pub fn run_stop(d: Dialect, c: Cell) -> Option<u8>
     }
 }
 
-// The end of the cell's ordinary bytes from `at`, at most `stop`.
+// Whether digits leave this state of a number unchanged.
+fn keeps_digits(n: Numeral) -> bool
+    ensures { result ≡ true → KeepsDigits (Cell.InNumber n) }
+{
+    match n {
+        Numeral::Integer => true,
+        Numeral::Fraction => true,
+        Numeral::Exponent => true,
+        _ => false,
+    }
+}
+
+// The end of the digits from `at`, at most `stop`, if they leave the state unchanged. A step of the automaton for each digit takes three times as long, or more.
+fn digit_run(c: Cell, s: &[u8], at: usize, stop: usize) -> usize
+    requires { (at ≤ stop) × (stop ≤ length s.now) }
+    ensures { (d : TheDialect) → RestFrom d c s.now stop at result }
+{
+    let Cell::InNumber(n) = c else {
+        return at;
+    };
+    if !keeps_digits(n) {
+        return at;
+    }
+    for i in at..stop {
+        if !cell_lexer::values::is_digit(s[i]) {
+            return i;
+        }
+    }
+    stop
+}
+
+// The end of the bytes from `at`, at most `stop`, that leave the state unchanged and need no step: ordinary ones of a text, and digits.
 fn cell_run(d: Dialect, c: Cell, s: &[u8], at: usize, stop: usize) -> usize
     requires { (at ≤ stop) × (stop ≤ length s.now) }
-    ensures { result ≡ at + run_length d (run_stop d c) (slice s.now at stop) }
+    ensures { RestFrom d c s.now stop at result }
 {
     match run_stop(d, c) {
         Some(q) => run(s, at, stop, cell_lexer::quote_of(d), q),
-        None => at,
+        None => digit_run(c, s, at, stop),
     }
 }
 

@@ -1,13 +1,11 @@
 use Prim.Native.Nat.{ℕ, ◌+◌, ◌≤◌}
 use native.Mathlib.Omega.{arith}
-use mathlib.Core.Path.{◌≡◌, sym, ap, ◌∙◌}
+use mathlib.Core.Path.{◌≡◌, sym, ◌∙◌}
 use lib.ListN.{get_or}
 use Rattle.model.specs.declared.Cell.{Cell}
 use Rattle.model.specs.declared.CellStep.TheVariants.{More}
 use Rattle.model.specs.rules.Cell.{cell_step}
-use Rattle.model.specs.rules.Api.{slice}
-use Rattle.cell_scanner.specs.Run.{run_stop, run_length, cell_run}
-use Rattle.cell_scanner.proofs.Runs.{run_rest, run_short, rest_more, rest_stops, rest_refused, rest_open}
+use Rattle.cell_scanner.proofs.Runs.{rest_more, rest_stops, rest_refused, rest_open}
 use Rattle.cell_scanner.proofs.cell_end.Goals as goal
 
 pub returns-in-Stop : goal.returns-in-Stop
@@ -29,15 +27,13 @@ loop-i-preserved c =
     let t : Cell = c.in-More.next in
     let next : cell_step a.d c.loop-i.c (get_or a.s.now c.loop-i.i 0) ≡ More t =
     sym c.cell_step.ensures ∙ c.in-More.is in
-    let fits : j + run_length a.d (run_stop a.d t) (slice a.s.now j a.stop) ≤ a.stop =
-    run_short a.d (run_stop a.d t) a.s.now j a.stop (omega arith) c.loop-i.invariant.1 in
-    let at : c.cell_run-i.result ≡ j + run_length a.d (run_stop a.d t) (slice a.s.now j a.stop) = c.cell_run-i.ensures in (
-      omega arith,
+    let rest = c.cell_run-i.ensures in
+    let from : j ≤ c.cell_run-i.result = rest.from in (
+      rest.upto,
       c.loop-i.invariant.1,
       c.loop-i.invariant.2
           ∙ rest_more a.d c.loop-i.c a.s.now c.loop-i.i a.stop c.loop-i-test.true c.loop-i.invariant.1 t next
-          ∙ run_rest a.d t a.s.now j a.stop
-          ∙ ap (λ (k : ℕ). cell_run a.d t k (slice a.s.now k a.stop)) (sym at),
+          ∙ rest.same,
     )
 
 pub returns : goal.returns
