@@ -11,7 +11,13 @@ use Rattle.model.specs.rules.Base.{Bytes, choose◌then◌else◌, ◌is◌}
 use Rattle.model.specs.rules.Cell.{is_digit, numeral_step}
 use Rattle.model.specs.rules.Api.{slice}
 use Rattle.swar.specs.Words.{all_pass}
+use Rattle.cell_fast.specs.TextRuns.{PassRun}
 use Rattle.cell_fast.specs.CellOutcome.{Results}
+
+-- digits from here to r, at most `stop`, before which only a byte that is no digit ends them
+pub record DigitsTo (s : Bytes) (at stop r : ℕ) : Type 0 where
+  pub run : PassRun is_digit s at stop r
+  pub ends : r < stop → is_digit (get_or s r 0) ≡ false
 
 -- digits from here to r, one at least, before a byte that is no digit
 pub record Digits (s : Bytes) (at stop r : ℕ) : Type 0 where

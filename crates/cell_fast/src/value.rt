@@ -7,7 +7,7 @@ ghost use Rattle.model.specs.declared.Cell.TheVariants.{Fresh};
 ghost use Rattle.model.specs.rules.Cell.{is_digit};
 ghost use Rattle.cell_fast.specs.TextRuns.{PassRun};
 ghost use Rattle.cell_fast.specs.Ends.{EndsBefore};
-ghost use Rattle.cell_fast.specs.BareValues.{Digits, is_letter_e, BeginsNumber, IntegerEnd, Letters};
+ghost use Rattle.cell_fast.specs.BareValues.{DigitsTo, Digits, is_letter_e, BeginsNumber, IntegerEnd, Letters};
 
 // The end of the digits from `at` on, as far as the next eight bytes show.
 fn word_digits(s: &[u8], at: usize, stop: usize) -> usize
@@ -20,46 +20,53 @@ fn word_digits(s: &[u8], at: usize, stop: usize) -> usize
     at + swar::before_flag(swar::no_digit(swar::word(s, at)))
 }
 
-// The end of the whole words of digits from `at` on, or of the digits in the word after them. A `while`: a step takes eight bytes.
+// The end of the whole words of digits from `at` on. A `while`: a step takes eight bytes.
 fn digit_words(s: &[u8], at: usize, stop: usize) -> usize
     requires { (at ≤ stop) × (stop ≤ length s.now) }
     ensures { PassRun is_digit s.now at stop result }
 {
     let mut i = at;
-    while 8 <= stop - i {
-        let next = word_digits(s, i, stop);
-        if next < i + 8 {
-            return next;
-        }
-        i = next;
+    while 8 <= stop - i && swar::no_digit(swar::word(s, i)) == 0 {
+        i += 8;
     }
     i
 }
 
-// The end of the digits from `at` on, of which there is at least one, before a byte that is no digit. Most of them are passed by words:
-// a byte at a time, a number of many digits took twice the time.
-fn digits_end(s: &[u8], at: usize, stop: usize) -> Option<usize>
+// The end of the digits from `at` on, a byte at a time: the next cell waits for it, and the flags of a word are known later than the end of
+// a few digits is predicted.
+fn digit_bytes(s: &[u8], at: usize, stop: usize) -> usize
     requires { (at ≤ stop) × (stop ≤ length s.now) }
-    ensures { IfSome result (Digits s.now at stop) }
+    ensures { DigitsTo s.now at stop result }
 {
-    for i in digit_words(s, at, stop)..stop {
+    for i in at..stop {
         if !cell_lexer::values::is_digit(s[i]) {
-            if i == at {
-                return None;
-            }
-            return Some(i);
+            return i;
         }
     }
-    None
+    stop
 }
 
-// The end of the integer at `at`.
-fn integer_end(s: &[u8], at: usize, stop: usize) -> Option<usize>
-    requires { (at < stop) × (stop ≤ length s.now) }
+// The end of the digits from `at` on, of which those up to `known` are known; there is at least one, and a byte that is no digit follows.
+fn digits_end(s: &[u8], at: usize, known: usize, stop: usize) -> Option<usize>
+    requires bounds { stop ≤ length s.now }
+    requires digits { PassRun is_digit s.now at stop known }
+    ensures { IfSome result (Digits s.now at stop) }
+{
+    let end = digit_bytes(s, known, stop);
+    if end == at || end == stop {
+        return None;
+    }
+    Some(end)
+}
+
+// The end of the integer at `at`, of which the digits up to `known` are known.
+fn integer_end(s: &[u8], at: usize, known: usize, stop: usize) -> Option<usize>
+    requires bounds { (at < stop) × (stop ≤ length s.now) }
+    requires digits { PassRun is_digit s.now at stop known }
     ensures { IfSome result (IntegerEnd s.now stop at) }
 {
     if s[at] != b'0' {
-        return digits_end(s, at, stop);
+        return digits_end(s, at, known, stop);
     }
     if stop - at < 2 {
         return None;
@@ -73,14 +80,15 @@ fn is_letter_e(b: u8) -> bool
     matches!(b, b'e' | b'E')
 }
 
-// The end of a number whose digits begin at `at`.
-fn number_end(s: &[u8], at: usize, stop: usize) -> Option<usize>
-    requires { (at < stop) × (stop ≤ length s.now) }
+// The end of a number whose digits begin at `at`, of which those up to `known` are known.
+fn number_end(s: &[u8], at: usize, known: usize, stop: usize) -> Option<usize>
+    requires bounds { (at < stop) × (stop ≤ length s.now) }
+    requires digits { PassRun is_digit s.now at stop known }
     ensures { IfSome result (λ end. (c : Cell) → BeginsNumber c → EndsBefore Csvj s.now stop c at end) }
 {
-    let end = integer_end(s, at, stop)?;
+    let end = integer_end(s, at, known, stop)?;
     if s[end] == b'.' {
-        let last = digits_end(s, end + 1, stop)?;
+        let last = digits_end(s, end + 1, end + 1, stop)?;
         if is_letter_e(s[last]) {
             return None;
         }
@@ -106,8 +114,8 @@ fn stepwise_end(s: &[u8], at: usize, stop: usize) -> Option<usize>
     ensures { IfSome result (EndsBefore Csvj s.now stop Fresh at) }
 {
     match s[at] {
-        b'-' if 2 <= stop - at => number_end(s, at + 1, stop),
-        b'0'..=b'9' => number_end(s, at, stop),
+        b'-' if 2 <= stop - at => number_end(s, at + 1, at + 1, stop),
+        b'0'..=b'9' => number_end(s, at, at, stop),
         b't' if letters_follow(s, at, stop, b"rue") => Some(at + 4),
         b'n' if letters_follow(s, at, stop, b"ull") => Some(at + 4),
         b'f' if letters_follow(s, at, stop, b"als") && s[at + 4] == b'e' && 6 <= stop - at => {
@@ -142,17 +150,20 @@ fn is_number(s: &[u8], at: usize, end: usize, stop: usize) -> bool
     last == end
 }
 
-// The end of an unquoted cell of CSVJ; first by a guess, a number before the next comma.
+// The end of an unquoted cell of CSVJ; first by a guess, a number before the next comma. Of a number whose first eight bytes are digits
+// the others are passed by words too.
 pub fn value_end(s: &[u8], at: usize, stop: usize) -> Option<usize>
     requires { (at < stop) × (stop ≤ length s.now) }
     ensures { IfSome result (EndsBefore Csvj s.now stop Fresh at) }
 {
     if 8 <= stop - at {
-        if let Some(n) = swar::guess(swar::word(s, at), b',')
-            && s[at + n] == b','
-            && is_number(s, at, at + n, stop)
-        {
-            return Some(at + n);
+        let w = swar::word(s, at);
+        if let Some(n) = swar::guess(w, b',') {
+            if s[at + n] == b',' && is_number(s, at, at + n, stop) {
+                return Some(at + n);
+            }
+        } else if swar::no_digit(w) == 0 {
+            return number_end(s, at, digit_words(s, at, stop), stop);
         }
     }
     stepwise_end(s, at, stop)

@@ -1,4 +1,4 @@
--- `cell_fast::value::digit_words` meets its contract. The invariant: digits lie from `at` to here. A step has at least eight bytes fewer to go.
+-- `cell_fast::value::digit_words` meets its contract. The invariant: digits lie from `at` to here.
 use Prim.Native.Nat.{◌-◌}
 use Rattle.model.specs.rules.Cell.{is_digit}
 use Rattle.cell_fast.specs.TextRuns.{PassRun}

@@ -1,7 +1,12 @@
-use mathlib.Core.Path.{sym, ◌∙◌}
-use Rattle.cell_fast.proofs.PassRuns.{pass_byte}
+-- `cell_fast::value::digits_end` meets its contract: the digits up to `known`, and those from there on.
+use native.Mathlib.Omega.{arith}
+use Rattle.cell_fast.proofs.PassRuns.{pass_join}
 use Rattle.cell_fast.proofs.value.digits_end.Goals as goal
 
-pub loop-i-preserved : goal.loop-i-preserved
-loop-i-preserved c =
-    pass_byte c.loop-i.invariant c.loop-i-test.true c.requires.1 (sym c.is_digit.ensures ∙ c.if-not-is_digit.false)
+pub returns : goal.returns
+returns c =
+    let rest = c.digit_bytes-end.ensures in
+    let all = pass_join c.requires.digits rest.run in
+    let from = all.from in
+    let upto = all.upto in
+    record { some = omega arith; before = omega arith; each = all.each; ends = rest.ends (omega arith) }
