@@ -4,7 +4,7 @@
 ghost use Rattle.std.specs.Prelude.{◌≡◌, ◌≤◌, false, length, drop};
 ghost use Rattle.model.specs.rules.Base.{over};
 ghost use Rattle.model.specs.rules.Decode.{undouble};
-ghost use Rattle.cell_decoder.specs.DoubledQuotes.{UndoubledAt};
+ghost use Rattle.cell_decoder.specs.DoubledQuotes.{UndoubledAt, RunBefore};
 ghost use Rattle.cell_decoder.specs.Strings.{string_from};
 ghost use Rattle.cell_decoder.specs.FirstByte.{content_in};
 
@@ -30,12 +30,29 @@ pub fn undoubled_at(q: u8, raw: &[u8], i: usize) -> Option<(u8, usize)>
     Some((b, i + 2))
 }
 
-// The length of the text after an opening quote.
+// The end of the bytes before the next quote from `at` on, as far as whole words show them.
+fn before_quote(q: u8, raw: &[u8], at: usize) -> usize
+    ensures { RunBefore q raw.now at result }
+{
+    let mut i = at;
+    // A `while`: a step takes eight bytes.
+    while i < raw.len() && 8 <= raw.len() - i {
+        let quotes = swar::other_than(swar::word(raw, i), q) ^ 0x8080808080808080;
+        if quotes != 0 {
+            return i + swar::before_flag(quotes);
+        }
+        i += 8;
+    }
+    i
+}
+
+// The length of the text after an opening quote. The words before the first quote after it are counted at once; from there on a byte at
+// a time, since a word for each short run between quotes takes half as much time again.
 fn undoubled_length(q: u8, raw: &[u8]) -> usize
     ensures { result ≡ length (undouble q false (drop 1 raw.now)) }
 {
-    let mut i = 1;
-    let mut n: usize = 0;
+    let mut i = before_quote(q, raw, 1);
+    let mut n = i - 1;
     while let Some((_, next)) = undoubled_at(q, raw, i) {
         n += 1;
         i = next;
@@ -43,10 +60,11 @@ fn undoubled_length(q: u8, raw: &[u8]) -> usize
     n
 }
 
-// The text after an opening quote.
-fn write_undoubled(q: u8, raw: &[u8], out: &mut [u8])
+// The text after an opening quote, and its length.
+fn write_undoubled(q: u8, raw: &[u8], out: &mut [u8]) -> usize
     requires { length (undouble q false (drop 1 raw.now)) ≤ length out.old }
-    ensures { out.new ≡ over (undouble q false (drop 1 raw.now)) out.old }
+    ensures size { result ≡ length (undouble q false (drop 1 raw.now)) }
+    ensures text { out.new ≡ over (undouble q false (drop 1 raw.now)) out.old }
 {
     let mut i = 1;
     let mut o = 0;
@@ -55,6 +73,7 @@ fn write_undoubled(q: u8, raw: &[u8], out: &mut [u8])
         o += 1;
         i = next;
     }
+    o
 }
 
 // ---- strings of CSVJ: two loops, since a byte that is no escape is counted or stored at once and is no text of its own
@@ -82,17 +101,18 @@ fn string_length(raw: &[u8]) -> usize
     n
 }
 
-// The string after an opening quote.
-fn write_string(raw: &[u8], out: &mut [u8])
+// The string after an opening quote, and its length.
+fn write_string(raw: &[u8], out: &mut [u8]) -> usize
     requires { length (string_from raw.now 1) ≤ length out.old }
-    ensures { out.new ≡ over (string_from raw.now 1) out.old }
+    ensures size { result ≡ length (string_from raw.now 1) }
+    ensures text { out.new ≡ over (string_from raw.now 1) out.old }
 {
     let mut i = 1;
     let mut o = 0;
     while i < raw.len() {
         let b = raw[i];
         if b == b'"' {
-            return;
+            return o;
         }
         if b == b'\\' {
             let p = escape::unescape_at(raw, i);
@@ -104,6 +124,7 @@ fn write_string(raw: &[u8], out: &mut [u8])
             i += 1;
         }
     }
+    o
 }
 
 // ---- content in any encoding
@@ -120,16 +141,15 @@ pub fn length_in(s: Spelling, raw: &[u8]) -> usize
     }
 }
 
-// Content in this encoding, at the beginning of out.
-pub fn write_in(s: Spelling, raw: &[u8], out: &mut [u8])
+// Content in this encoding, at the beginning of out, and its length.
+pub fn write_in(s: Spelling, raw: &[u8], out: &mut [u8]) -> usize
     requires { length (content_in s raw.now) ≤ length out.old }
-    ensures { out.new ≡ over (content_in s raw.now) out.old }
+    ensures size { result ≡ length (content_in s raw.now) }
+    ensures text { out.new ≡ over (content_in s raw.now) out.old }
 {
     match s {
-        Spelling::Nothing => {}
-        Spelling::AsItStands => {
-            buffer::copy(out, 0, raw);
-        }
+        Spelling::Nothing => 0,
+        Spelling::AsItStands => buffer::copy(out, 0, raw),
         Spelling::Doubled(q) => write_undoubled(q, raw, out),
         Spelling::Escaped => write_string(raw, out),
     }

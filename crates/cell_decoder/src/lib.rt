@@ -1,9 +1,9 @@
 // The decoder of one cell. A dialect's number, the raw bytes of a cell and a room go in; the content comes out in the room, with its
 // length and kind as the answer, or a refusal that leaves the room unchanged.
 //
-// It validates and measures first and writes afterwards, so that nothing is written before all is known to fit. The definitions are
-// model's specs/rules/Decode.antt, and `decoder` and `decoder_leaves` of its specs/rules/Api.antt; specs/Answer.antt says what an answer
-// means in the rules' numbers.
+// It validates first and writes afterwards, so that nothing is written before all is known to fit: content is no longer than its cell,
+// and is measured only where the room is shorter than the cell. The definitions are model's specs/rules/Decode.antt, and `decoder` and
+// `decoder_leaves` of its specs/rules/Api.antt; specs/Answer.antt says what an answer means in the rules' numbers.
 //
 // source.rt says what the bytes of a cell are, first_byte.rt how they are encoded, validate.rt checks them by the automaton, escape.rt
 // reads an escape of CSVJ, and content.rt measures and writes.
@@ -40,10 +40,11 @@ pub fn content_length(d: Dialect, raw: &[u8]) -> usize
     content::length_in(first_byte::spelling_by(d, cell::first_of(raw)), raw)
 }
 
-// The content of a cell, at the beginning of a room that has space for it.
-fn write_content(d: Dialect, raw: &[u8], room: &mut [u8])
+// The content of a cell, at the beginning of a room that has space for it, and its length.
+fn write_content(d: Dialect, raw: &[u8], room: &mut [u8]) -> usize
     requires { length (content_of d raw.now) ≤ length room.old }
-    ensures { room.new ≡ over (content_of d raw.now) room.old }
+    ensures size { result ≡ length (content_of d raw.now) }
+    ensures text { room.new ≡ over (content_of d raw.now) room.old }
 {
     content::write_in(first_byte::spelling_by(d, cell::first_of(raw)), raw, room)
 }
@@ -53,15 +54,18 @@ pub fn decode_sound(d: Dialect, raw: &[u8], room: &mut [u8]) -> Result<Decoded, 
     ensures result_value { given_answer result ≡ decoder_answer (sound_cell d raw.now (length room.old)) }
     ensures room_after { room.new ≡ over (sound_cell d raw.now (length room.old)).content room.old }
 {
+    let kind = cell::kind_of(d, raw);
+    // Content is no longer than its cell, so it is measured first only where the room is shorter.
+    if raw.len() <= room.len() {
+        let size = write_content(d, raw, room);
+        return Ok(Decoded { size, kind });
+    }
     let size = content_length(d, raw);
     if room.len() < size {
         return Err(codes::call_report(codes::NO_ROOM));
     }
     write_content(d, raw, room);
-    Ok(Decoded {
-        size,
-        kind: cell::kind_of(d, raw),
-    })
+    Ok(Decoded { size, kind })
 }
 
 // ---- any raw bytes

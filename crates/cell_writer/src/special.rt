@@ -65,8 +65,7 @@ fn decodes_to_bom(e: Encoded) -> bool
     ensures { result ≡ begins_bom (content_in e.entry.spelling e.entry.raw.now) }
 {
     let mut room = [0u8; MAX_RECORD];
-    content::write_in(e.spelling, e.raw, &mut room);
-    let size = content::length_in(e.spelling, e.raw);
+    let size = content::write_in(e.spelling, e.raw, &mut room);
     is_bom(&room[..size])
 }
 

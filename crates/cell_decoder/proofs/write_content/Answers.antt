@@ -1,5 +1,6 @@
 -- `cell_decoder::write_content` meets its contract: the first byte determines the encoding.
 use mathlib.Core.Path.{◌≡◌, ap, ◌∙◌}
+use lib.ListN.{length}
 use Rattle.model.specs.rules.Base.{Bytes, over}
 use Rattle.model.specs.rules.Decode.{content_of}
 use Rattle.cell_decoder.specs.FirstByte.{spelling_by, content_in}
@@ -22,4 +23,4 @@ returns c =
     ap (λ (s : Spelling). content_in s raw) (c.spelling_by.ensures ∙ ap (spelling_by c.args.d) c.first_of.ensures)
     ∙ content_first c.args.d raw in
     let a = c.args in
-    c.write_in.ensures ∙ ap (λ (w : Bytes). over w a.room.now) spelt
+    record { size = c.write_in.ensures.size ∙ ap length spelt; text = c.write_in.ensures.text ∙ ap (λ (w : Bytes). over w a.room.now) spelt }

@@ -1,15 +1,17 @@
 use mathlib.Core.List.{◌∷◌}
 use Prim.Native.Nat.{◌+◌}
+use native.Mathlib.Omega.{arith}
 use lib.ListN.{get_or}
 use Rattle.cell_decoder.specs.Strings.{string_from}
 use Rattle.cell_decoder.proofs.Strings.{string_end, string_quote, string_byte, stepped}
-use Rattle.buffer.proofs.WriteProgress.{Writing, here, store, filled}
+use Rattle.buffer.proofs.WriteProgress.{Writing, here, store, done, filled}
 use Rattle.cell_decoder.proofs.content.write_string.Goals as goal
 
 pub returns-then-b-eq34 : goal.returns-then-b-eq34
 returns-then-b-eq34 c =
     let a = c.args in
-    filled (rw (string_quote a.raw.now c.loop-i.i c.loop-i-test.true c.if-b-eq34.true) at c.loop-i.invariant)
+    let all = rw (string_quote a.raw.now c.loop-i.i c.loop-i-test.true c.if-b-eq34.true) at c.loop-i.invariant in
+    record { size = omega (arith, (done all).0); text = filled all }
 
 pub loop-i-preserved-then-b-eq92 : goal.loop-i-preserved-then-b-eq92
 loop-i-preserved-then-b-eq92 c = stepped _ _ c.loop-i.invariant c.unescape_at-p.ensures c.as_slice.ensures.text c.copy-o.ensures
@@ -29,4 +31,6 @@ loop-i-preserved c =
     store (now-left)
 
 pub returns : goal.returns
-returns c = filled (rw (string_end c.args.raw.now c.loop-i.i c.loop-i-test.false) at c.loop-i.invariant)
+returns c =
+    let all = rw (string_end c.args.raw.now c.loop-i.i c.loop-i-test.false) at c.loop-i.invariant in
+    record { size = omega (arith, (done all).0); text = filled all }
