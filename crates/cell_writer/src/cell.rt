@@ -77,6 +77,9 @@ fn write_number(c: Spelling, raw: &[u8], out: &mut [u8], o: usize, write: bool) 
 
 // ---- words
 
+// Kept a call of its own, which is a look-up in a table. Inside `write_word` it was a jump to a copy for each word, mispredicted where words
+// alternate at random.
+#[inline(never)]
 fn csvj_word(kind: Kind) -> &'static [u8]
     ensures { result.now ≡ word_for Csvj kind }
 {
