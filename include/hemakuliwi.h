@@ -113,7 +113,7 @@ struct hk_decode_answer {
    escapes, a number as spelt, nothing for the other kinds. Bytes past the content are left as they
    were. Every cell that hk_read finds is sound; HK_ROOM only if the content is longer than the
    room.
-   Stack of hk_decode: 560 bytes. */
+   Stack of hk_decode: 540 bytes. */
 struct hk_decode_answer hk_decode(uint32_t dialect, const uint8_t *raw, size_t raw_length,
                                   uint8_t *room, size_t room_length);
 
