@@ -246,13 +246,23 @@ module _ (s : Bytes) (i stop : ℕ) (inside : stop ≤ length s) where
         let w = wide_two r.lead (get_or s i 0) (get_or s (i + 1) 0) begun low top (omega (arith, row.size)) in
         record { from = omega arith; upto = h; characters = rw (bytes_two h) w }
 
-    pub run_three : r.length ≡ 3 → i + 3 ≤ stop → is_later (get_or s (i + 2) 0) ≡ true → WideRun s i stop (i + 3)
-    run_three n h third =
+    pub run_three_bytes : r.length ≡ 3 → i + 3 ≤ stop → is_later (get_or s (i + 2) 0) ≡ true → WideRun s i stop (i + 3)
+    run_three_bytes n h third =
         let w = wide_three r.lead (get_or s i 0) (get_or s (i + 1) 0) begun low top (get_or s (i + 2) 0) (omega (arith, row.size)) third in
         record { from = omega arith; upto = h; characters = rw (bytes_three h) w }
 
-    pub run_four : 4 ≤ r.length → i + 4 ≤ stop → is_later (get_or s (i + 2) 0) ≡ true → is_later (get_or s (i + 3) 0) ≡ true → WideRun s i stop (i + 4)
-    run_four k h third fourth =
+    -- the same by the row's length
+    pub run_three : r.length ≡ 3 → i + r.length ≤ stop → is_later (get_or s (i + 2) 0) ≡ true → WideRun s i stop (i + r.length)
+    run_three n h third = rw n (run_three_bytes n (omega arith) third)
+
+    pub run_four_bytes : 4 ≤ r.length → i + 4 ≤ stop → is_later (get_or s (i + 2) 0) ≡ true → is_later (get_or s (i + 3) 0) ≡ true → WideRun s i stop (i + 4)
+    run_four_bytes k h third fourth =
         let size : (row_of r.lead).size ≡ 4 = omega (arith, row.size, longest r.lead) in
         let w = wide_four r.lead (get_or s i 0) (get_or s (i + 1) 0) begun low top (get_or s (i + 2) 0) (get_or s (i + 3) 0) size third fourth in
         record { from = omega arith; upto = h; characters = rw (bytes_four h) w }
+
+    -- the same by the row's length
+    pub run_four : 4 ≤ r.length → i + r.length ≤ stop → is_later (get_or s (i + 2) 0) ≡ true → is_later (get_or s (i + 3) 0) ≡ true → WideRun s i stop (i + r.length)
+    run_four k h third fourth =
+        let n : r.length ≡ 4 = omega (arith, row.size, longest r.lead) in
+        rw n (run_four_bytes k (omega arith) third fourth)
